@@ -1,0 +1,54 @@
+-- What an access does to the registers, and the log of accesses (document 01: 0 to 11 of them, in order, unused places zero).
+use Prim.Native.Nat.{ℕ, _+_, _%_, _^_}
+use mathlib.Core.Bool.{false}
+use mathlib.Core.List.{List}
+use lib.ListN.{set, replicate}
+use lib.Dec.{ltb}
+use Rattle.common.specs.Pick.{pick}
+use Rattle.cartridge.specs.Cartridge.{romByte}
+use Rattle.registers.specs.Groups.{withIo-wmadd, withIo-openbus}
+use Rattle.registers.specs.Read.{readIo}
+use Rattle.registers.specs.WmAdd.{stepped}
+use Rattle.registers.specs.Write.{writeIo}
+use Rattle.registers.specs.declared.Io.{Io}
+use Rattle.registers.specs.declared.read.IoRead.{IoRead}
+use Rattle.wram.specs.Olds.{noOlds}
+use Rattle.bus.specs.declared.access.Access.{Access}
+use Rattle.bus.specs.declared.access.Core.{Core}
+use Rattle.bus.specs.declared.access.Log.{Log}
+use Rattle.bus.specs.declared.route.Route.{Route}
+use Rattle.bus.specs.declared.route.Route.the-variants.{Bank7E, Bank7F, Data, Registers, Cartridge}
+
+abbrev pub noAccess : Access
+noAccess = record { write = false; bank = 0; addr = 0; byte = 0 }
+
+-- one more: the count steps, and the first eleven are stored
+unfoldable pub pushAccess : Log → Access → Log
+pushAccess log a = record { count = (log .count + 1) % 2 ^ 8; items = pick (ltb (log .count) 11) (set (log .items) (log .count) a) (log .items) }
+
+-- nothing done on the bus yet
+unfoldable pub opened : Io → Core
+opened io = record { io = io; log = record { count = 0; items = replicate 11 noAccess }; olds = noOlds }
+
+-- $2180: the byte is the open bus, and WMADD goes one up
+abbrev pub dataStepped : Io → ℕ → Io
+dataStepped io v = withIo-openbus (withIo-wmadd io (stepped (io .wmadd))) v
+
+-- a write to work RAM or the cartridge leaves the registers alone
+unfoldable pub ioWritten : Io → Route → ℕ → ℕ → Io
+ioWritten io Bank7E a v = io
+ioWritten io Bank7F a v = io
+ioWritten io Data a v = dataStepped io v
+ioWritten io Registers a v = writeIo io a v
+ioWritten io Cartridge a v = io
+
+abbrev pub gave : Io → ℕ → IoRead
+gave io v = record { io = io; byte = v }
+
+-- a read gives the byte that work RAM holds, a register's or the cartridge's; past the ROM the open bus
+unfoldable pub registerRead : List ℕ → Io → Route → ℕ → ℕ → ℕ → IoRead
+registerRead rom io Bank7E b a v = gave io v
+registerRead rom io Bank7F b a v = gave io v
+registerRead rom io Data b a v = gave (dataStepped io v) v
+registerRead rom io Registers b a v = readIo io a
+registerRead rom io Cartridge b a v = gave io (romByte rom b a (io .openbus))

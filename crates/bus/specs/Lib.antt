@@ -1,0 +1,4 @@
+pub mod Route
+pub mod Access
+pub mod World
+pub mod View

@@ -1,0 +1,59 @@
+-- The registers, the log, the bytes overwritten and both banks: what one access does to them all.
+use Prim.Native.Nat.{ℕ}
+use mathlib.Core.Bool.{true, false}
+use mathlib.Core.List.{List}
+use mathlib.Core.Path.{_≡_}
+use Rattle.registers.specs.declared.Io.{Io}
+use Rattle.registers.specs.declared.read.IoRead.{IoRead}
+use Rattle.wram.specs.Banks.{Banks, banks, peeked, poked}
+use Rattle.wram.specs.Olds.{keptAt}
+use Rattle.wram.specs.declared.Olds.{Olds}
+use Rattle.wram.specs.declared.Place.{Place}
+use Rattle.bus.specs.Access.{pushAccess, ioWritten, registerRead}
+use Rattle.bus.specs.Route.{routeOf, placeOf}
+use Rattle.bus.specs.declared.access.Access.{Access}
+use Rattle.bus.specs.declared.access.BusRead.{BusRead}
+use Rattle.bus.specs.declared.access.Core.{Core}
+use Rattle.bus.specs.declared.access.Log.{Log}
+use Rattle.bus.specs.declared.route.Route.{Route}
+
+pub record World : Type 0 where
+  pub core : Core
+  pub ram : Banks
+
+pub record Reading : Type 0 where
+  pub world : World
+  pub byte : ℕ
+
+abbrev pub world : Core → List ℕ → List ℕ → World
+world k l h = record { core = k; ram = banks l h }
+
+abbrev pub reading : BusRead → List ℕ → List ℕ → Reading
+reading r l h = record { world = world (r .core) l h; byte = r .byte }
+
+abbrev pub core : Io → Log → Olds → Core
+core io log olds = record { io = io; log = log; olds = olds }
+
+-- the place in work RAM of an access
+abbrev pub placeAt : World → ℕ → ℕ → Place
+placeAt w b a = placeOf (w .core .io .wmadd) (routeOf b a) a
+
+abbrev pub readIoAt : List ℕ → World → ℕ → ℕ → IoRead
+readIoAt rom w b a = registerRead rom (w .core .io) (routeOf b a) b a (peeked (w .ram) (placeAt w b a))
+
+-- a read: the byte, the registers after it, one access more
+unfoldable pub readAt : List ℕ → World → ℕ → ℕ → Reading
+readAt rom w b a =
+    let r = readIoAt rom w b a in
+    record {
+      world = record { core = core (r .io) (pushAccess (w .core .log) (record { write = false; bank = b; addr = a; byte = r .byte })) (w .core .olds); ram = w .ram };
+      byte = r .byte;
+    }
+
+-- a write: the byte at its place and the one that it replaced kept, the registers after it, one access more
+unfoldable pub writeAt : World → ℕ → ℕ → ℕ → World
+writeAt w b a v =
+    record {
+      core = core (ioWritten (w .core .io) (routeOf b a) a v) (pushAccess (w .core .log) (record { write = true; bank = b; addr = a; byte = v })) (keptAt (w .core .olds) (w .ram) (placeAt w b a));
+      ram = poked (w .ram) (placeAt w b a) v;
+    }

@@ -1,0 +1,3 @@
+pub mod General
+pub mod Pass
+pub mod Cycle

@@ -1,0 +1,3 @@
+//! The published crate `common`, as far as its text is held.
+
+include!(concat!(env!("OUT_DIR"), "/modules.rs"));

@@ -1,0 +1,89 @@
+//! The oracle's programs. Run without arguments for the list.
+
+use oracle::{coverage, generator, selfcheck, trace};
+use std::fs;
+use std::io::{self, Read, Write};
+use std::path::Path;
+use std::process::ExitCode;
+
+const USAGE: &str = "usage:
+  oracle trace [FILE]           print document 01's lines for a bench file (standard input if no FILE)
+  oracle selfcheck SEED COUNT   random runs with back steps, COUNT accepted operations in all
+  oracle make SEED COUNT DIR    write COUNT bench files and LIST (file name, kind) into DIR
+  oracle one SEED INDEX         write one of these files to standard output
+  oracle kinds                  list the kinds of bench file
+  oracle coverage SEED COUNT    count what COUNT bench files reach; fails if something named is never reached";
+
+fn main() -> ExitCode {
+    let words: Vec<String> = std::env::args().skip(1).collect();
+    let words: Vec<&str> = words.iter().map(String::as_str).collect();
+    match run(&words) {
+        Ok(()) => ExitCode::SUCCESS,
+        Err(message) => {
+            eprintln!("{message}");
+            ExitCode::FAILURE
+        }
+    }
+}
+
+fn run(words: &[&str]) -> Result<(), String> {
+    match *words {
+        ["trace"] => show_trace(&read_input()?),
+        ["trace", file] => show_trace(&fs::read(file).map_err(|error| format!("{file}: {error}"))?),
+        ["selfcheck", seed, count] => {
+            let counts = selfcheck::selfcheck(number(seed)?, number(count)?)?;
+            print(format!("seed {seed}: {counts}\n").as_bytes())
+        }
+        ["make", seed, count, folder] => make(number(seed)?, number(count)?, Path::new(folder)),
+        ["one", seed, index] => print(&generator::file(number(seed)?, number(index)?)),
+        ["kinds"] => kinds(),
+        ["coverage", seed, count] => show_coverage(seed, count),
+        _ => Err(USAGE.into()),
+    }
+}
+
+fn number(word: &str) -> Result<u64, String> {
+    word.parse().map_err(|_| format!("'{word}' is not a number from 0 to 2^64 - 1\n{USAGE}"))
+}
+
+fn read_input() -> Result<Vec<u8>, String> {
+    let mut file = vec![];
+    io::stdin().read_to_end(&mut file).map_err(|error| format!("standard input: {error}"))?;
+    Ok(file)
+}
+
+fn print(bytes: &[u8]) -> Result<(), String> {
+    io::stdout().write_all(bytes).map_err(|error| format!("standard output: {error}"))
+}
+
+fn show_trace(file: &[u8]) -> Result<(), String> {
+    print(trace::trace(file).as_bytes())
+}
+
+fn make(seed: u64, count: u64, folder: &Path) -> Result<(), String> {
+    let failed = |error: io::Error| format!("{}: {error}", folder.display());
+    fs::create_dir_all(folder).map_err(failed)?;
+    let mut list = String::new();
+    for index in 0..count {
+        let name = format!("{index:05}.bench");
+        fs::write(folder.join(&name), generator::file(seed, index)).map_err(failed)?;
+        let way = generator::broken_way(index).map_or(String::new(), |way| format!(": {way}"));
+        list += &format!("{name} {}{way}\n", generator::kind_name(index));
+    }
+    fs::write(folder.join("LIST"), list).map_err(failed)
+}
+
+fn kinds() -> Result<(), String> {
+    let lines: String = generator::KINDS.iter().map(|kind| format!("{:<11} {}\n", kind.name, kind.about)).collect();
+    let ways: String = generator::broken::WAYS.iter().map(|way| format!("            {}\n", way.0)).collect();
+    print(format!("{lines}broken      files that break their form:\n{ways}").as_bytes())
+}
+
+fn show_coverage(seed: &str, count: &str) -> Result<(), String> {
+    let coverage = coverage::coverage(number(seed)?, number(count)?);
+    print(format!("seed {seed}, {count} files, {} calls\n\n{coverage}", coverage.calls).as_bytes())?;
+    match coverage.never() {
+        0 => Ok(()),
+        never => Err(format!("{never} members were never reached")),
+    }
+}

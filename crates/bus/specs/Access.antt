@@ -22,13 +22,17 @@ use Rattle.bus.specs.declared.route.Route.the-variants.{Bank7E, Bank7F, 
 abbrev pub noAccess : Access
 noAccess = record { write = false; bank = 0; addr = 0; byte = 0 }
 
+-- no access yet; unused places are zero
+abbrev pub noLog : Log
+noLog = record { count = 0; items = replicate 11 noAccess }
+
 -- one more: the count steps, and the first eleven are stored
 unfoldable pub pushAccess : Log → Access → Log
 pushAccess log a = record { count = (log .count + 1) % 2 ^ 8; items = pick (ltb (log .count) 11) (set (log .items) (log .count) a) (log .items) }
 
 -- nothing done on the bus yet
 unfoldable pub opened : Io → Core
-opened io = record { io = io; log = record { count = 0; items = replicate 11 noAccess }; olds = noOlds }
+opened io = record { io = io; log = noLog; olds = noOlds }
 
 -- $2180: the byte is the open bus, and WMADD goes one up
 abbrev pub dataStepped : Io → ℕ → Io

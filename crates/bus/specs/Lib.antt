@@ -2,3 +2,4 @@ pub mod Route
 pub mod Access
 pub mod World
 pub mod View
+pub mod Fit

@@ -1,7 +1,7 @@
 // Reads and writes on the bus. Each is logged, and each byte of work RAM that a write replaces is kept.
 ghost use mathlib.Core.Path.{_≡_};
 ghost use denote.Ref.{now};
-ghost use Rattle.bus.specs.Access.{pushAccess, opened, dataStepped, ioWritten, registerRead};
+ghost use Rattle.bus.specs.Access.{noLog, pushAccess, opened, dataStepped, ioWritten, registerRead};
 ghost use Rattle.bus.specs.World.{world, reading, readAt, writeAt};
 use crate::route::Route;
 use crate::route::place_of;
@@ -52,22 +52,29 @@ fn push_access(log: Log, a: Access) -> Log
     out
 }
 
+pub fn no_log() -> Log
+    ensures { λ r. ⌜ r ≡ noLog ⌝ }
+{
+    Log {
+        count: 0,
+        items: [Access {
+            write: false,
+            bank: 0,
+            addr: 0,
+            byte: 0,
+        }; 11],
+    }
+}
+
 // The registers with nothing done on the bus yet.
 pub fn opened_core(io: Io) -> Core
     ensures { λ r. ⌜ r ≡ opened io ⌝ }
 {
+    let log = no_log();
     let olds = wram::no_olds();
     Core {
         io: io,
-        log: Log {
-            count: 0,
-            items: [Access {
-                write: false,
-                bank: 0,
-                addr: 0,
-                byte: 0,
-            }; 11],
-        },
+        log: log,
         olds: olds,
     }
 }

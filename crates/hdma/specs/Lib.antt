@@ -1,3 +1,4 @@
 pub mod Engine
 pub mod Entry
 pub mod Line
+pub mod Fit

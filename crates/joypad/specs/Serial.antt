@@ -2,12 +2,17 @@
 use Prim.Native.Nat.{ℕ, zero, suc, _/_, _%_, _^_}
 use mathlib.Core.Bool.{Bool}
 use mathlib.Core.List.{List, [], _∷_}
+use Rattle.common.specs.Pick.{pick}
 use Rattle.joypad.specs.Port.{setLatch, setButtons, clock}
 use Rattle.joypad.specs.declared.ControllerPort.{ControllerPort}
 
 -- bit k of a word
 abbrev pub bit : ℕ → ℕ → ℕ
 bit k w = w / 2 ^ k % 2
+
+-- what there is to read in a port: the buttons, and 0 where no pad is
+abbrev pub found : ControllerPort → ℕ
+found p = pick (p .connected) (p .buttons) 0
 
 -- n clock pulses
 unfoldable pub clocks : ℕ → ControllerPort → ControllerPort

@@ -6,3 +6,7 @@ pub mod Channel
 pub mod Read
 pub mod Write
 pub mod PowerOn
+pub mod WmNumber
+pub mod Maths
+pub mod Fit
+pub mod Ranges

@@ -1,3 +1,5 @@
 pub mod BitLaws
 pub mod Join
 pub mod Sending
+pub mod Adds
+pub mod FitLaws

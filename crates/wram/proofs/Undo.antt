@@ -65,12 +65,12 @@ pub record Going (olds : Olds) (b₀ b : Banks) (n : ℕ) : Type 0 where
   pub low : length (b .low) ≡ length (b₀ .low)
   pub high : length (b .high) ≡ length (b₀ .high)
 
-poked-low : (b : Banks) (p : Place) (v : ℕ) → length (poked b p v .low) ≡ length (b .low)
+pub poked-low : (b : Banks) (p : Place) (v : ℕ) → length (poked b p v .low) ≡ length (b .low)
 poked-low b Nowhere v = refl
 poked-low b (Bank7E a) v = length-set (b .low) a v
 poked-low b (Bank7F a) v = refl
 
-poked-high : (b : Banks) (p : Place) (v : ℕ) → length (poked b p v .high) ≡ length (b .high)
+pub poked-high : (b : Banks) (p : Place) (v : ℕ) → length (poked b p v .high) ≡ length (b .high)
 poked-high b Nowhere v = refl
 poked-high b (Bank7E a) v = refl
 poked-high b (Bank7F a) v = length-set (b .high) a v

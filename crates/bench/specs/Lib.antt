@@ -1,0 +1,5 @@
+pub mod Refusal
+pub mod Ring
+pub mod Host
+pub mod Page
+pub mod Calls

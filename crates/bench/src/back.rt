@@ -1,0 +1,42 @@
+// One operation taken back: the newest entry restores the machine and the bytes that were overwritten. No record byte is written.
+ghost use mathlib.Core.Path.{_≡_};
+ghost use denote.Ref.{now};
+ghost use Rattle.bench.specs.Calls.{desk, plainOut, backCall};
+use crate::Bench;
+use crate::operate::Answer;
+use crate::refusal::back_number;
+use crate::refusal::lent_number;
+use crate::ring::less_kept;
+use crate::ring::slot_before;
+use entry::read_entry;
+use wram::put_back;
+
+pub fn back(b: Bench, low: &mut [u8], high: &mut [u8], entries: &mut [u8]) -> Answer
+    ensures { λ r. ⌜ plainOut r (now (low .exit)) (now (high .exit)) (now (entries .exit)) ≡ backCall (desk b (now (low .entry)) (now (high .entry)) (now (entries .entry))) ⌝ }
+{
+    let lent = lent_number(b, low.len(), high.len(), entries.len(), 0);
+    let cap = b.length / 256;
+    let slot = slot_before(cap, b.slot);
+    let newest = read_entry(entries, slot);
+    let n = back_number(lent, b.kept, newest.ok);
+    if n != 0 {
+        return Answer {
+            number: n,
+            bench: b,
+        };
+    }
+    let olds = newest.olds;
+    let m = newest.machine;
+    let kept = less_kept(b.kept);
+    put_back(low, high, olds);
+    let b2 = Bench {
+        machine: m,
+        slot: slot,
+        kept: kept,
+        length: b.length,
+    };
+    Answer {
+        number: 0,
+        bench: b2,
+    }
+}

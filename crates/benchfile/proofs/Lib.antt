@@ -1,0 +1,12 @@
+pub mod Parts
+pub mod Zeros
+pub mod Tests
+pub mod Rows
+pub mod Numbers
+pub mod Found
+pub mod RowBytes
+pub mod Scripts
+pub mod Facts
+pub mod Apart
+pub mod Built
+pub mod Format

@@ -1,0 +1,4 @@
+pub mod Bytes
+pub mod Row
+pub mod File
+pub mod Build

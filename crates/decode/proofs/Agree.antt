@@ -1,0 +1,119 @@
+-- The entry's ranges and the machine's agree: an entry that was made of a machine and old bytes passes exactly where they do.
+use Prim.Native.Nat.{ℕ, _^_, _<_}
+use mathlib.Core.Bool.{Bool, true, false, _&&_}
+use mathlib.Core.List.{[], _∷_}
+use mathlib.Core.Path.{_≡_, refl, sym, ap, _∙_}
+use native.Mathlib.Omega.{arith}
+use lib.Dec.{leb}
+use lib.ListN.{getD}
+use mir.Val.{boolByte}
+use Rattle.decode.proofs.Accepted.{machine-ok, olds-ok}
+use Rattle.decode.proofs.Back.{machine-back, olds-back}
+use Rattle.decode.proofs.Tested.{flag-small, bank-ok, state-small, auto-small, auto-tests, progress-tests, place-small, old-tests}
+use Rattle.fields.specs.Little.{le, joined}
+use Rattle.fields.proofs.Number.{number}
+use Rattle.image.specs.Encode.{image, encode}
+use Rattle.image.specs.Fit.{FitOld, FitOlds}
+use Rattle.image.specs.Groups.{autoKind, autoBits, autoCountdown, stateByte, present, progressChannel, progressUnit, place, noOld}
+use Rattle.ranges.specs.Entry.{kindTests, cycleTests, autoTests, dmaTests, oldTests, entryTests, entryOk}
+use Rattle.ranges.specs.Machine.{machineTests, machineOk}
+use Rattle.ranges.specs.Olds.{blankTests, oldsTests, oldsOk}
+use Rattle.ranges.specs.Tests.{all, when, lowZero}
+use Rattle.ranges.proofs.Tests.{every, whole}
+use Rattle.registers.specs.declared.pads.AutoJoypad.{AutoJoypad}
+use Rattle.registers.specs.declared.pads.AutoJoypad.the-variants.{Idle, Pending, Reading}
+use Rattle.state.specs.Widths.{Fit32, FitAuto, FitProgress, Fit, noLine}
+use Rattle.state.specs.declared.DmaProgress.{DmaProgress}
+use Rattle.state.specs.declared.DmaProgress.the-variants.{Nothing, At}
+use Rattle.state.specs.declared.HdmaChannelState.{HdmaChannelState}
+use Rattle.state.specs.declared.Machine.{Machine}
+use Rattle.wram.specs.declared.Old.{Old}
+use Rattle.wram.specs.declared.Olds.{Olds}
+
+countdown-fits : (a : AutoJoypad) → FitAuto a → Fit32 (autoCountdown a)
+countdown-fits Idle h = omega arith
+countdown-fits (Pending countdown) h = h
+countdown-fits (Reading bits countdown) h = h .1
+
+unit-fits : (p : DmaProgress) → FitProgress p → Fit32 (progressUnit p)
+unit-fits Nothing h = omega arith
+unit-fits (At channel unit) h = h .1
+
+-- an old byte in a slot
+slot : (x : Old) (count i : ℕ) → FitOld x → when (leb count i) (all (blankTests x)) ≡ true → all (oldTests count i (joined (le 3 (place x))) (x .byte)) ≡ true
+slot x count i g h =
+    let small : place x < 256 ^ 3 = omega (arith, place-small x g) in
+    ap (λ (p : ℕ). all (oldTests count i p (x .byte))) (number 3 (place x) small) ∙ old-tests x count i g h
+
+module _ (m : Machine) (o : Olds) (f : Fit m) (g : FitOlds o) where
+  pub entry-ok : machineOk m ≡ true → oldsOk o ≡ true → entryOk (encode m o) ≡ true
+  unfolding machineOk oldsOk entryOk entryTests encode image
+  entry-ok p q =
+      let t = every (machineTests m) p in
+      let s = every (oldsTests o) q in
+      let pads = m .io .pads in
+      let d = m .dma in
+      let b = m .board in
+      let cycles = number 2 (b .bitcycles) (f .board .bitcycles) in
+      let line : ℕ → HdmaChannelState = λ k. getD (d .channels) k noLine in
+      let old : ℕ → Old = λ k. getD (o .items) k noOld in
+      λ i.
+      all
+      (whole (kindTests (autoKind (pads .auto)) (stateByte (d .state)) (o .count)) (auto-small (pads .auto), (state-small (d .state), (s .0, tt {0}))) i
+      ∷ true
+      ∷ all
+      (flag-small (pads .port1 .connected) i
+      ∷ flag-small (pads .port1 .latch) i
+      ∷ flag-small (pads .port2 .connected) i
+      ∷ flag-small (pads .port2 .latch) i
+      ∷ flag-small (b .nmi) i
+      ∷ flag-small (d .running) i
+      ∷ flag-small (present (d .progress)) i
+      ∷ flag-small (d .pending) i
+      ∷ flag-small (d .init) i
+      ∷ [])
+      ∷ all
+      (flag-small (line 0 .transfer) i
+      ∷ flag-small (line 0 .finished) i
+      ∷ flag-small (line 1 .transfer) i
+      ∷ flag-small (line 1 .finished) i
+      ∷ flag-small (line 2 .transfer) i
+      ∷ flag-small (line 2 .finished) i
+      ∷ flag-small (line 3 .transfer) i
+      ∷ flag-small (line 3 .finished) i
+      ∷ flag-small (line 4 .transfer) i
+      ∷ flag-small (line 4 .finished) i
+      ∷ flag-small (line 5 .transfer) i
+      ∷ flag-small (line 5 .finished) i
+      ∷ flag-small (line 6 .transfer) i
+      ∷ flag-small (line 6 .finished) i
+      ∷ flag-small (line 7 .transfer) i
+      ∷ flag-small (line 7 .finished) i
+      ∷ [])
+      ∷ bank-ok (m .io .wmadd .bank) i
+      ∷ (ap (λ (n : ℕ). all (cycleTests n)) cycles ∙ whole (cycleTests (b .bitcycles)) (t .0, (t .1 .0, tt {0}))) i
+      ∷ ((λ j. all (autoTests (autoKind (pads .auto)) (autoBits (pads .auto)) (number 4 (autoCountdown (pads .auto)) (countdown-fits (pads .auto) (f .io .pads .auto)) j) (cycles j)))
+      ∙ auto-tests (pads .auto) (b .bitcycles) (t .1 .1 .0)) i
+      ∷ all
+      ((ap lowZero (number 2 (pads .port1 .buttons) (f .io .pads .port1 .buttons)) ∙ t .1 .1 .1 .0) i
+      ∷ (ap lowZero (number 2 (pads .port2 .buttons) (f .io .pads .port2 .buttons)) ∙ t .1 .1 .1 .1 .0) i
+      ∷ (ap lowZero (number 2 (b .pad1) (f .board .pad1)) ∙ t .1 .1 .1 .1 .1 .0) i
+      ∷ (ap lowZero (number 2 (b .pad2) (f .board .pad2)) ∙ t .1 .1 .1 .1 .1 .1 .0) i
+      ∷ [])
+      ∷ ((λ j. all (dmaTests (boolByte (present (d .progress))) (progressChannel (d .progress)) (number 4 (progressUnit (d .progress)) (unit-fits (d .progress) (f .dma .progress)) j) (number 4 (d .wait) (f .dma .wait) j)))
+      ∙ progress-tests (d .progress) (d .wait) (t .1 .1 .1 .1 .1 .1 .1 .0) (t .1 .1 .1 .1 .1 .1 .1 .1 .0)) i
+      ∷ slot (old 0) (o .count) 0 (g .items .each 0) (s .1 .0) i
+      ∷ slot (old 1) (o .count) 1 (g .items .each 1) (s .1 .1 .0) i
+      ∷ slot (old 2) (o .count) 2 (g .items .each 2) (s .1 .1 .1 .0) i
+      ∷ slot (old 3) (o .count) 3 (g .items .each 3) (s .1 .1 .1 .1 .0) i
+      ∷ [])
+
+  -- what back tests of an entry is what the calls test of the machine, and that the old bytes are well formed
+  pub agree : entryOk (encode m o) ≡ (machineOk m && oldsOk o)
+  agree = same (entryOk (encode m o)) (machineOk m) (oldsOk o) entry-ok (λ h. ap machineOk (sym (machine-back m o f)) ∙ machine-ok (encode m o) h) (λ h. ap oldsOk (sym (olds-back m o g)) ∙ olds-ok (encode m o) h)
+    where
+      same : (a b c : Bool) → (b ≡ true → c ≡ true → a ≡ true) → (a ≡ true → b ≡ true) → (a ≡ true → c ≡ true) → a ≡ (b && c)
+      same true b c h p q = rw (p refl, q refl)
+      same false true true h p q = h refl refl
+      same false true false h p q = refl
+      same false false c h p q = refl

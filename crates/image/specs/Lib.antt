@@ -1,0 +1,3 @@
+pub mod Groups
+pub mod Fit
+pub mod Encode

@@ -1,0 +1,3 @@
+pub mod Tests
+pub mod Join
+pub mod Log

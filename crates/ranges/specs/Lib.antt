@@ -1,0 +1,4 @@
+pub mod Tests
+pub mod Machine
+pub mod Olds
+pub mod Entry

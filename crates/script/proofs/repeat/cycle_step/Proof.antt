@@ -1,0 +1,42 @@
+use Rattle.script.proofs.Join.{cycle-stopped, cycle-goes}
+use borrow.Author.Tests.{eq-eqb, ne-eqb}
+use borrow.Author.Needs.{needs}
+use Rattle.script.proofs.repeat.cycle_step.Statement.{statement}
+use Rattle.script.proofs.repeat.cycle_step.Tie as tie
+
+returns : tie.Need-returns
+returns c = cycle-stopped _ _ _ _ _ (ne-eqb _ _ (c .if1 .taken))
+
+cycle-requires : tie.Need-cycle-requires
+cycle-requires c κs = search needs
+
+plus-one-requires : tie.Need-plus-one-requires
+plus-one-requires c κs = search needs
+
+plus-one-requires-2 : tie.Need-plus-one-requires-2
+plus-one-requires-2 c κs = search needs
+
+same-length : tie.Need-same-length
+same-length c = search needs
+
+same-length-2 : tie.Need-same-length-2
+same-length-2 c = search needs
+
+same-length-3 : tie.Need-same-length-3
+same-length-3 c = search needs
+
+returns-2 : tie.Need-returns-2
+returns-2 c = cycle-goes _ _ _ _ _ (eq-eqb _ _ (c .before .before .before .before .before .before .before .before .before .before .before .before .before .before .before .if1 .left)) (c .before .before .before .before .before .before .before .before .before .before .cycle .ensures) (c .before .plus-one .ensures) (c .plus-one2 .ensures)
+
+pub cycle-step-spec : {M : Type 1} → statement M
+cycle-step-spec =
+    tie.close
+    (tie.spec
+    returns
+    cycle-requires
+    plus-one-requires
+    plus-one-requires-2
+    same-length
+    same-length-2
+    same-length-3
+    returns-2)

@@ -1,0 +1,71 @@
+use Rattle.script.proofs.Join.{Going, going-start, going-on, going-end, cycles-more, cycles-none}
+use Rattle.script.specs.Run.{ran, cyclesRun}
+use Rattle.bench.specs.Calls.{desk}
+use native.Mathlib.Omega.{arith}
+use mathlib.Core.Path.{refl}
+use Prim.Native.Nat.{_-_}
+use Rattle.script.proofs.repeat.run_cycles.Statement.{statement}
+use Rattle.script.proofs.repeat.run_cycles.Tie as tie
+
+abbrev Inv-loop : tie.InvT-loop
+Inv-loop low₀ high₀ entries₀ rom count event line timer s₀ i₀ low high entries s i =
+    let d = desk (s₀ .bench) low₀ high₀ entries₀ in
+    Going (λ k. cyclesRun rom event line timer k d) count d (ran s low high entries) i
+
+abbrev μ-loop : tie.MeasureT-loop
+μ-loop low₀ high₀ entries₀ rom count event line timer s₀ i₀ low high entries s i = count - i
+
+loop-holds : tie.Need-loop-holds Inv-loop μ-loop
+loop-holds c = going-start _ _ _ refl (cycles-none _ _ _ _ _)
+
+first-of-requires : tie.Need-first-of-requires Inv-loop μ-loop
+first-of-requires c κs = tt
+
+first-flag-requires : tie.Need-first-flag-requires Inv-loop μ-loop
+first-flag-requires c κs = tt
+
+first-flag-requires-2 : tie.Need-first-flag-requires-2 Inv-loop μ-loop
+first-flag-requires-2 c κs = tt
+
+cycle-step-requires : tie.Need-cycle-step-requires Inv-loop μ-loop
+cycle-step-requires c κs = tt
+
+add-i : tie.Need-add-i Inv-loop μ-loop
+add-i c = omega (arith, (c .before .before .before .before .before .before .before .before .before .before .before .before .before .loop-test .taken), (c .before .before .before .before .before .before .before .before .before .before .before .before .before .before .before .before .before .before .before .fits .count .fits))
+
+loop-less : tie.Need-loop-less Inv-loop μ-loop
+loop-less c = omega arith
+
+loop-again : tie.Need-loop-again Inv-loop μ-loop
+loop-again c = going-on _ _ _ (c .before .before .before .before .before .before .before .before .before .before .before .before .before .before .loop .inv) (c .before .before .before .before .before .before .before .before .before .before .before .before .before .loop-test .taken) (cycles-more _ _ _ _ _ _ ((c .before .before .before .before .before .before .before .before .before .before .before .before .before .before .loop .inv .is)) (c .before .before .before .before .before .before .before .before .before .before .before .before .first-of .ensures) (c .before .before .before .before .before .before .before .before .before .before .before .first-flag .ensures) (c .before .before .before .before .before .before .before .before .before .before .first-flag2 .ensures) (c .before .before .before .before .before .before .cycle-step .ensures)) (record { low = (c .before .before .before .before .before .before .cycle-step .kept .1 .0); high = (c .before .before .before .before .before .before .cycle-step .kept .1 .1 .0); entries = (c .before .before .before .before .before .before .cycle-step .kept .1 .1 .1 .0) })
+
+same-length : tie.Need-same-length Inv-loop μ-loop
+same-length c = (c .before .loop .inv .lengths .low)
+
+same-length-2 : tie.Need-same-length-2 Inv-loop μ-loop
+same-length-2 c = (c .before .loop .inv .lengths .high)
+
+same-length-3 : tie.Need-same-length-3 Inv-loop μ-loop
+same-length-3 c = (c .before .loop .inv .lengths .entries)
+
+returns : tie.Need-returns Inv-loop μ-loop
+returns c = going-end _ _ _ (c .before .loop .inv) (c .loop-test .left)
+
+pub run-cycles-spec : {M : Type 1} → statement M
+run-cycles-spec =
+    tie.close
+    (tie.spec
+    Inv-loop
+    μ-loop
+    loop-holds
+    first-of-requires
+    first-flag-requires
+    first-flag-requires-2
+    cycle-step-requires
+    add-i
+    loop-less
+    loop-again
+    same-length
+    same-length-2
+    same-length-3
+    returns)

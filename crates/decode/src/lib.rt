@@ -1,30 +1,30 @@
 // A machine and the bytes that an operation overwrote, read back from the 256 bytes of an entry.
 mod cases;
 mod dma;
-mod olds;
 mod register_file;
-mod words;
 
 ghost use mathlib.Core.Path.{_≡_};
-ghost use Rattle.decode.specs.Decode.{boardAt, machineAt, oldsAt};
+ghost use Prim.Native.Nat.{_+_, _≤_};
+ghost use Rattle.decode.specs.Decode.{boardAt, machineAt, oldAt, oldsAt};
+ghost use Rattle.image.specs.Encode.{entrySize};
 use crate::dma::dma_at;
-use crate::olds::old_at;
 use crate::register_file::io_at;
-use crate::words::word_at;
+use fields::join2;
 use fields::join8;
 use image::ENTRY_SIZE;
 use state::Board;
 use state::Machine;
+use wram::Old;
 use wram::Olds;
 
 fn board_at(e: [u8; ENTRY_SIZE]) -> Board
     ensures { λ r. ⌜ r ≡ boardAt e ⌝ }
 {
     Board {
-        pad1: word_at(e, 52),
-        pad2: word_at(e, 54),
+        pad1: join2(e[52], e[53]),
+        pad2: join2(e[54], e[55]),
         nmi: e[56] == 1,
-        bitcycles: word_at(e, 57),
+        bitcycles: join2(e[57], e[58]),
         clock: join8(
             e[214],
             e[215],
@@ -45,6 +45,18 @@ pub fn machine_at(e: [u8; ENTRY_SIZE]) -> Machine
     let dma = dma_at(e);
     let board = board_at(e);
     Machine { io, dma, board }
+}
+
+// The third byte of a place is the bank.
+fn old_at(e: [u8; ENTRY_SIZE], k: usize) -> Old
+    requires { ⌜ k + 4 ≤ entrySize ⌝ }
+    ensures { λ r. ⌜ r ≡ oldAt e k ⌝ }
+{
+    Old {
+        high: e[k + 2] == 1,
+        addr: join2(e[k], e[k + 1]),
+        byte: e[k + 3],
+    }
 }
 
 pub fn olds_at(e: [u8; ENTRY_SIZE]) -> Olds

@@ -2,10 +2,11 @@
 ghost use mathlib.Core.Path.{_≡_};
 ghost use Prim.Native.Nat.{_+_, _≤_};
 ghost use Rattle.decode.specs.Decode.{wmaddAt, mathAt, timesAt, enablesAt, flagsAt, joysAt, portAt, padsAt, channelAt, channelsAt, portsAt, ioAt};
+ghost use Rattle.fields.specs.Little.{field};
 ghost use Rattle.image.specs.Encode.{entrySize};
 use crate::cases::auto_of;
 use crate::cases::bank_of;
-use crate::words::word_at;
+use fields::join2;
 use fields::join4;
 use image::ENTRY_SIZE;
 use joypad::ControllerPort;
@@ -19,6 +20,13 @@ use registers::channel::DmaChannel;
 use registers::math::Math;
 use registers::pads::Pads;
 use registers::wm_address::WmAddress;
+
+fn word_at(e: [u8; ENTRY_SIZE], k: usize) -> u16
+    requires { ⌜ k + 2 ≤ entrySize ⌝ }
+    ensures { λ r. ⌜ r ≡ field 2 e k ⌝ }
+{
+    join2(e[k], e[k + 1])
+}
 
 fn wmadd_at(e: [u8; ENTRY_SIZE]) -> WmAddress
     ensures { λ r. ⌜ r ≡ wmaddAt e ⌝ }

@@ -20,16 +20,16 @@ alignment clock = 8 - clock % 8
 abbrev pub alignedWait : ℕ → ℕ
 alignedWait clock = alignment clock + 7
 
--- MDMAEN not 0 with nothing running starts a transfer in any state, also in the middle of a pass
+-- MDMAEN not 0 with nothing running starts a transfer in any state, also in the middle of a pass: the rest of its queue waits for nobody, and init stays set
 unfoldable pub startPending : Dma → ℕ → ℕ → Dma
 startPending d mask clock =
     pick (d .running) d (pick (eqb mask 0) d (withWait (withRunning (withState d Startup) true) (alignedWait clock)))
 
--- a pending pass takes over where nothing is waited for, from any state
+-- a pending pass takes over where nothing is waited for, from any state: from Startup it skips the cycle to Dma, from Hdma it restarts the pass
 unfoldable pub dueOf : Dma → Bool
 dueOf d = d .pending && eqb (d .wait) 0
 
--- the pass begins: 18 cycles with this one, over the channels that HDMAEN has now
+-- the pass begins: 18 cycles with this one, over the channels that HDMAEN has now; with none the pass is 18 + 1 cycles and still clears init
 abbrev pub takeover : Dma → ℕ → Dma
 takeover d queue = withWait (withQueue (withPending (withState d Hdma) false) queue) 17
 

@@ -18,7 +18,8 @@ use Rattle.machine.specs.Event.{settled, timed, isFrame}
 use Rattle.machine.specs.declared.cycle.Turn.{Turn}
 use Rattle.machine.specs.declared.event.Event.{Event}
 
--- with HDMAEN not 0 a line due makes a pass pending, and a frame's start one that initialises
+-- with HDMAEN not 0 a line due makes a pass pending, and a frame's start one that initialises; a frame's start inside a pass has the
+-- channels that are left in its queue initialise
 unfoldable pub armed : Dma → ℕ → Bool → Bool → Dma
 armed d mask frame line = pick (eqb mask 0) d (withInit (withPending d (d .pending || frame || line)) (d .init || frame))
 

@@ -13,6 +13,7 @@ fn kinds_ok(auto: u8, state: u8, count: u8) -> bool
     (auto <= 2) & (state <= 3) & (count <= 4)
 }
 
+// The tail of an entry is zero.
 fn zeros_ok(e: [u8; ENTRY_SIZE]) -> bool
     ensures { λ r. ⌜ r ≡ all (zeroTests e) ⌝ }
 {
@@ -35,6 +36,7 @@ fn zeros_ok(e: [u8; ENTRY_SIZE]) -> bool
         & (e[255] == 0)
 }
 
+// Flags of the ports, the NMI line and the DMA unit.
 fn flags_ok(e: [u8; ENTRY_SIZE]) -> bool
     ensures { λ r. ⌜ r ≡ all (flagTests e) ⌝ }
 {
@@ -49,6 +51,7 @@ fn flags_ok(e: [u8; ENTRY_SIZE]) -> bool
         & (e[72] <= 1)
 }
 
+// Flags of the eight HDMA channels.
 fn lines_ok(e: [u8; ENTRY_SIZE]) -> bool
     ensures { λ r. ⌜ r ≡ all (lineTests e) ⌝ }
 {
@@ -102,6 +105,7 @@ fn dma_ok(present: u8, channel: u8, unit: u32, wait: u32) -> bool
     (channel < 8) & ((present != 0) | ((channel == 0) & (unit == 0))) & (wait <= 55)
 }
 
+// Slot `i` of the old bytes, of which `count` are used.
 fn old_ok(count: u8, i: u8, place: u32, byte: u8) -> bool
     ensures { λ r. ⌜ r ≡ all (oldTests count i place byte) ⌝ }
 {

@@ -53,7 +53,9 @@ cast-t40 c = search needs
 
 returns : tie.Need-returns
 unfolding image
-returns c = rw ((c .before .before .before .before .before .before .before .progress-unit .ensures), (c .before .before .before .before .before .before .before .before .progress-channel .ensures), (c .before .before .before .before .before .before .before .before .before .is-present .ensures), (c .before .before .before .before .before .before .before .before .before .before .state-byte .ensures))
+returns c =
+    let a = c .before .before .before .before .before .before .before in
+    rw (a .progress-unit .ensures, a .before .progress-channel .ensures, a .before .before .is-present .ensures, a .before .before .before .state-byte .ensures)
 
 pub dma-bytes-spec : {M : Type 1} → statement M
 dma-bytes-spec =

@@ -84,7 +84,9 @@ cast-t64 c = search needs
 
 returns : tie.Need-returns
 unfolding image
-returns c = rw (c .before .before .before .before .before .before .before .before .before .before .before .before .before .before .before .before .before .before .before .auto-countdown .ensures) (rw (c .before .before .before .before .before .before .before .before .before .before .before .before .before .before .before .before .before .before .before .before .auto-bits .ensures) (rw (c .before .before .before .before .before .before .before .before .before .before .before .before .before .before .before .before .before .before .before .before .before .auto-kind .ensures) refl))
+returns c =
+    let a = c .before .before .before .before .before .before .before .before .before .before .before .before .before .before .before .before .before .before .before in
+    rw (a .auto-countdown .ensures) (rw (a .before .auto-bits .ensures) (rw (a .before .before .auto-kind .ensures) refl))
 
 pub pads-bytes-spec : {M : Type 1} → statement M
 pads-bytes-spec =

@@ -229,7 +229,25 @@ old-ok-requires-4 : tie.Need-old-ok-requires-4
 old-ok-requires-4 c κs = search needs
 
 returns : tie.Need-returns
-returns c = joined-tests (c .before .before .before .before .before .before .before .before .before .before .before .before .before .before .before .before .before .before .before .before .before .before .before .before .before .args .t1) (c .before .before .before .before .before .before .before .before .before .before .before .before .before .before .before .before .before .before .before .before .before .before .before .before .join2 .ensures) (c .before .before .before .before .before .before .before .before .before .before .before .before .before .before .before .before .before .join4 .ensures) (c .before .before .before .before .before .before .before .before .before .before .before .before .before .before .before .join22 .ensures) (c .before .before .before .before .before .before .before .before .before .before .before .before .before .before .join23 .ensures) (c .before .before .before .before .before .before .before .before .before .before .before .before .before .join24 .ensures) (c .before .before .before .before .before .before .before .before .before .before .before .before .join25 .ensures) (c .before .before .before .before .before .before .before .before .before .before .join42 .ensures) (c .before .before .before .before .before .before .before .before .before .join43 .ensures) (c .before .before .before .before .before .before .before .join3 .ensures) (c .before .before .before .before .before .join32 .ensures) (c .before .before .before .join33 .ensures) (c .before .join34 .ensures) (c .before .before .before .before .before .before .before .before .before .before .before .before .before .before .before .before .before .before .before .before .before .before .before .kinds-ok .ensures) (c .before .before .before .before .before .before .before .before .before .before .before .before .before .before .before .before .before .before .before .before .before .before .zeros-ok .ensures) (c .before .before .before .before .before .before .before .before .before .before .before .before .before .before .before .before .before .before .before .before .before .flags-ok .ensures) (c .before .before .before .before .before .before .before .before .before .before .before .before .before .before .before .before .before .before .before .before .lines-ok .ensures) (c .before .before .before .before .before .before .before .before .before .before .before .before .before .before .before .before .before .before .before .bank-ok .ensures) (c .before .before .before .before .before .before .before .before .before .before .before .before .before .before .before .before .before .before .cycles-ok .ensures) (c .before .before .before .before .before .before .before .before .before .before .before .before .before .before .before .before .auto-ok .ensures) (c .before .before .before .before .before .before .before .before .before .before .before .pads-ok .ensures) (c .before .before .before .before .before .before .before .before .dma-ok .ensures) (c .before .before .before .before .before .before .old-ok .ensures) (c .before .before .before .before .old-ok2 .ensures) (c .before .before .old-ok3 .ensures) (c .old-ok4 .ensures)
+returns c =
+    let o2 = c .before .before in
+    let o1 = o2 .before .before in
+    let o0 = o1 .before .before in
+    let d = o0 .before .before in
+    let p = d .before .before .before in
+    let a = p .before .before .before .before .before in
+    let y = a .before .before in
+    let k = y .before .before .before .before .before in
+    let s = k .before in
+    joined-tests (s .before .args .t1) (s .join2 .ensures) (a .before .join4 .ensures)
+    (p .before .before .before .before .join22 .ensures) (p .before .before .before .join23 .ensures)
+    (p .before .before .join24 .ensures) (p .before .join25 .ensures)
+    (d .before .before .join42 .ensures) (d .before .join43 .ensures)
+    (o0 .before .join3 .ensures) (o1 .before .join32 .ensures) (o2 .before .join33 .ensures) (c .before .join34 .ensures)
+    (k .kinds-ok .ensures) (y .before .before .before .before .zeros-ok .ensures) (y .before .before .before .flags-ok .ensures)
+    (y .before .before .lines-ok .ensures) (y .before .bank-ok .ensures) (y .cycles-ok .ensures)
+    (a .auto-ok .ensures) (p .pads-ok .ensures) (d .dma-ok .ensures)
+    (o0 .old-ok .ensures) (o1 .old-ok2 .ensures) (o2 .old-ok3 .ensures) (c .old-ok4 .ensures)
 
 pub entry-ok-spec : {M : Type 1} → statement M
 entry-ok-spec =

@@ -33,10 +33,6 @@ addressOff a = ltb a 0x2134 || ltb 0x2143 a
 abbrev pub bitsOff : ℕ → Bool
 bitsOff bitcycles = eqb bitcycles 0 || ltb 4096 bitcycles
 
--- a line of the table: its number where it refuses
-abbrev pub line : ℕ → Bool → ℕ
-line n refuses = pick refuses n 0
-
 -- lines in order: the first number that is not 0
 abbrev pub alsoOf : ℕ → ℕ → ℕ
 alsoOf first second = pick (eqb first 0) second first

@@ -42,7 +42,7 @@ entry rom m r ch ind =
     (pick ind (record { after = at (dasLoaded rom (r .world) ch) (setHdma (m .dma) ch (started h (r .byte)) (m .dma .wait)); wait = 23; stop = false })
     (record { after = at (r .world) (setHdma (m .dma) ch (started h (r .byte)) (m .dma .wait)); wait = 7; stop = false }))
 
--- with low seven bits 0 a line reads a new counter first: so a $80 met later is read past
+-- with low seven bits 0 a line reads a new counter first: so a $80 that a frame begins with is read past, and one met later transfers twice
 unfoldable pub reloaded : List ℕ → DmaWorld → ℕ → Bool → Reloaded
 reloaded rom m ch ind =
     pick (flagOf (hdmaAt (m .dma) ch .counter) 0x7F) (record { after = m; wait = 7; stop = false })

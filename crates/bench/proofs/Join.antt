@@ -12,12 +12,12 @@ use Rattle.bus.specs.declared.access.Core.{Core}
 use Rattle.bus.specs.declared.access.Log.{Log}
 use Rattle.entry.specs.Entry.{decodeAt}
 use Rattle.entry.specs.declared.Entry.{Entry as Newest}
-use Rattle.machine.specs.Cycle.{Turned, cycled}
+use Rattle.machine.specs.Cycle.{Turned, machineAfter, cycled}
 use Rattle.machine.specs.declared.event.Event.{Event}
 use Rattle.state.specs.declared.Machine.{Machine}
 use Rattle.wram.specs.Banks.{Banks}
 use Rattle.wram.specs.Olds.{putBack}
-use Rattle.bench.specs.Calls.{Desk, lentOf, eventOf, CycleOut, machineAfter, cycleCall, ReadOut, readCall, WriteOut, writeCall, PlainOut, Hosting, hosted, onBanks, padCall, plugCall, answerCall, backCall, emptyBench, freshCall}
+use Rattle.bench.specs.Calls.{Desk, lentOf, eventOf, CycleOut, cycleCall, ReadOut, readCall, WriteOut, writeCall, PlainOut, Hosting, hosted, onBanks, padCall, plugCall, answerCall, backCall, emptyBench, freshCall}
 use Rattle.bench.specs.Host.{withIo, padSet, plugSet, answerSet}
 use Rattle.bench.specs.Refusal.{cycleNumber, portNumber, addressNumber, backNumber, freshNumber}
 use Rattle.bench.specs.Ring.{before, capacity, bench, Noted, noted}

@@ -13,7 +13,7 @@ use Rattle.bus.specs.World.{World, Reading, readAt, writeAt}
 use Rattle.bus.specs.declared.access.Log.{Log}
 use Rattle.entry.specs.Entry.{decodeAt}
 use Rattle.entry.specs.declared.Entry.{Entry as Newest}
-use Rattle.machine.specs.Cycle.{Turned, cycled}
+use Rattle.machine.specs.Cycle.{Turned, machineAfter, cycled}
 use Rattle.machine.specs.PowerOn.{powerOnMachine}
 use Rattle.machine.specs.declared.cycle.Turn.{Turn}
 use Rattle.machine.specs.declared.event.Event.{Event}
@@ -70,9 +70,6 @@ cycleOut r l h e = record { number = r .number; held = r .held; edge = r .edge; 
 
 abbrev pub machineOf : Turn → Machine
 machineOf t = record { io = t .core .io; dma = t .dma; board = t .board }
-
-abbrev pub machineAfter : Turned → Machine
-machineAfter t = record { io = t .after .world .core .io; dma = t .after .dma; board = t .board }
 
 abbrev pub cycleDone : Desk → Turned → CycleOut
 cycleDone d t =

@@ -1,13 +1,14 @@
 -- Bytes that pass the entry's ranges stand for a machine and old bytes in the ranges, and they are the entry of these.
-use Prim.Native.Nat.{ℕ, _+_}
+use Prim.Native.Nat.{ℕ, zero, suc, _+_, _≤_}
 use mathlib.Core.Bool.{true}
 use mathlib.Core.List.{List, [], _∷_, _++_, map}
 use mathlib.Core.Path.{_≡_, refl, sym, ap, _∙_}
-use borrow.Author.Tests.{eqb-true}
+use borrow.Author.Tests.{eqb-true, leb-true}
 use lib.Dec.{leb, eqb}
 use lib.ListN.{length, getD, replicate}
 use Rattle.decode.specs.Decode.{portAt, channelAt, channelsAt, ioAt, lineAt, dmaAt, boardAt, machineAt, oldsAt}
 use Rattle.decode.proofs.Field.{array}
+use Rattle.decode.proofs.Fits.{olds-fit}
 use Rattle.decode.proofs.Tested.{flag-byte, bank-byte, state-byte, Auto, auto-tested, Progress, progress-tested, old-tested, old-bytes}
 use Rattle.fields.specs.Little.{le, span, field}
 use Rattle.fields.proofs.Number.{span-back}
@@ -15,10 +16,11 @@ use Rattle.image.specs.Encode.{entrySize, image, encode}
 use Rattle.image.specs.Groups.{byte, encPort, encLine, encChannel}
 use Rattle.ranges.specs.Entry.{kindTests, zeroTests, flagTests, lineTests, bankOk, cycleTests, padTests, oldTests, entryTests, entryOk}
 use Rattle.ranges.specs.Machine.{machineTests, machineOk}
-use Rattle.ranges.specs.Olds.{oldsTests, oldsOk}
 use Rattle.ranges.specs.Tests.{all}
 use Rattle.ranges.proofs.Tests.{Every, every, whole}
-use Rattle.state.specs.Widths.{FitBytes}
+use Rattle.registers.specs.Fit.{Byte}
+use Rattle.wram.specs.Olds.{noOld}
+use Rattle.wram.specs.Ranges.{OldsOk}
 
 -- what the tests of an entry give, by name
 record Tested (e : List ℕ) : Type 0 where
@@ -78,33 +80,32 @@ module _ (e : List ℕ) (h : entryOk e ≡ true) where
       )
 
   -- so are the old bytes
-  pub olds-ok : oldsOk (oldsAt e) ≡ true
-  unfolding oldsOk oldsAt
-  olds-ok =
-      let t = tested e h in
-      let at : ℕ → ℕ = λ k. getD e k 0 in
-      whole (oldsTests (oldsAt e)) (
-        t .kinds .1 .1 .0,
-        (
-          old-tested (at 223) (at 224) (at 225) (at 226) (at 222) 0 (t .old0),
-          (
-            old-tested (at 227) (at 228) (at 229) (at 230) (at 222) 1 (t .old1),
-            (old-tested (at 231) (at 232) (at 233) (at 234) (at 222) 2 (t .old2), (old-tested (at 235) (at 236) (at 237) (at 238) (at 222) 3 (t .old3), tt {0})),
-          ),
-        ),
-      )
+  unused : (i : ℕ) → getD e 222 0 ≤ i → getD (oldsAt e .items) i noOld ≡ noOld
+  unfolding oldsAt
+  unused zero k = old-tested (getD e 223 0) (getD e 224 0) (getD e 225 0) (getD e 226 0) (getD e 222 0) 0 (tested e h .old0) k
+  unused (suc zero) k = old-tested (getD e 227 0) (getD e 228 0) (getD e 229 0) (getD e 230 0) (getD e 222 0) 1 (tested e h .old1) k
+  unused (suc (suc zero)) k = old-tested (getD e 231 0) (getD e 232 0) (getD e 233 0) (getD e 234 0) (getD e 222 0) 2 (tested e h .old2) k
+  unused (suc (suc (suc zero))) k = old-tested (getD e 235 0) (getD e 236 0) (getD e 237 0) (getD e 238 0) (getD e 222 0) 3 (tested e h .old3) k
+  unused (suc (suc (suc (suc i)))) k = refl
+
+  pub olds-ok : ((k : ℕ) → Byte (getD e k 0)) → OldsOk (oldsAt e)
+  unfolding oldsAt
+  olds-ok each = record {
+    filled = record { most = leb-true (getD e 222 0) 4 (tested e h .kinds .1 .1 .0); size = refl; unused = unused };
+    fits = olds-fit e each;
+  }
 
 -- tests for zero, all passed: the bytes are zeros
 zeros-are : (l : List ℕ) → Every (map (λ b. eqb b 0) l) → replicate (length l) 0 ≡ l
 zeros-are [] t = refl
 zeros-are (x ∷ l) t = λ i. sym (eqb-true x 0 (t .0)) i ∷ zeros-are l (t .1) i
 
-module _ (e : List ℕ) (f : FitBytes entrySize e) where
+module _ (e : List ℕ) (each : (k : ℕ) → Byte (getD e k 0)) where
   abbrev at : ℕ → ℕ
   at k = getD e k 0
 
   word : (k : ℕ) → le 2 (field 2 e k) ≡ span 2 e k
-  word k = span-back e (f .each) 2 k
+  word k = span-back e each 2 k
 
   port : (k : ℕ) → leb (at k) 1 ≡ true → leb (at (k + 1)) 1 ≡ true
       → encPort (portAt e k) ≡ byte (at k) ++ byte (at (k + 1)) ++ span 2 e (k + 2) ++ span 2 e (k + 4)
@@ -146,7 +147,7 @@ module _ (e : List ℕ) (f : FitBytes entrySize e) where
       ++ word 32 i
       ++ byte (t .auto .kind-is i)
       ++ byte (t .auto .bits-is i)
-      ++ (ap (le 4) (t .auto .countdown-is) ∙ span-back e (f .each) 4 36) i
+      ++ (ap (le 4) (t .auto .countdown-is) ∙ span-back e each 4 36) i
       ++ port 40 (g .0) (g .1 .0) i
       ++ port 46 (g .1 .1 .0) (g .1 .1 .1 .0) i
       ++ word 52 i
@@ -157,8 +158,8 @@ module _ (e : List ℕ) (f : FitBytes entrySize e) where
       ++ byte (flag-byte (at 60) (g .1 .1 .1 .1 .1 .0) i)
       ++ byte (t .progress .present-is i)
       ++ byte (t .progress .channel-is i)
-      ++ (ap (le 4) (t .progress .unit-is) ∙ span-back e (f .each) 4 63) i
-      ++ span-back e (f .each) 4 67 i
+      ++ (ap (le 4) (t .progress .unit-is) ∙ span-back e each 4 63) i
+      ++ span-back e each 4 67 i
       ++ byte (flag-byte (at 71) (g .1 .1 .1 .1 .1 .1 .1 .0) i)
       ++ byte (flag-byte (at 72) (g .1 .1 .1 .1 .1 .1 .1 .1 .0) i)
       ++ byte (at 73)
@@ -179,14 +180,14 @@ module _ (e : List ℕ) (f : FitBytes entrySize e) where
       ++ channel 170 i
       ++ channel 182 i
       ++ span 20 e 194
-      ++ span-back e (f .each) 8 214 i
+      ++ span-back e each 8 214 i
       ++ byte (at 222)
-      ++ old-bytes (at 223) (at 224) (at 225) (at 226) (at 222) 0 (f .each 223) (f .each 224) (t .old0) i
-      ++ old-bytes (at 227) (at 228) (at 229) (at 230) (at 222) 1 (f .each 227) (f .each 228) (t .old1) i
-      ++ old-bytes (at 231) (at 232) (at 233) (at 234) (at 222) 2 (f .each 231) (f .each 232) (t .old2) i
-      ++ old-bytes (at 235) (at 236) (at 237) (at 238) (at 222) 3 (f .each 235) (f .each 236) (t .old3) i
+      ++ old-bytes (at 223) (at 224) (at 225) (at 226) (at 222) 0 (each 223) (each 224) (t .old0) i
+      ++ old-bytes (at 227) (at 228) (at 229) (at 230) (at 222) 1 (each 227) (each 228) (t .old1) i
+      ++ old-bytes (at 231) (at 232) (at 233) (at 234) (at 222) 2 (each 231) (each 232) (t .old2) i
+      ++ old-bytes (at 235) (at 236) (at 237) (at 238) (at 222) 3 (each 235) (each 236) (t .old3) i
       ++ zeros-are (span 17 e 239) (t .zeros) i)
 
   -- they are the entry of what they stand for
-  pub only : entryOk e ≡ true → encode (machineAt e) (oldsAt e) ≡ e
-  only h = by-place h ∙ array entrySize e 0 (f .count)
+  pub only : length e ≡ entrySize → entryOk e ≡ true → encode (machineAt e) (oldsAt e) ≡ e
+  only l h = by-place h ∙ array entrySize e 0 l

@@ -1,65 +1,69 @@
 -- The entry's ranges and the machine's agree: an entry that was made of a machine and old bytes passes exactly where they do.
-use Prim.Native.Nat.{ℕ, _^_, _<_}
+use Prim.Native.Nat.{ℕ, _^_, _≤_, _<_}
 use mathlib.Core.Bool.{Bool, true, false, _&&_}
 use mathlib.Core.List.{[], _∷_}
 use mathlib.Core.Path.{_≡_, refl, sym, ap, _∙_}
 use native.Mathlib.Omega.{arith}
-use lib.Dec.{leb}
+use borrow.Author.Tests.{le-leb}
 use lib.ListN.{getD}
 use mir.Val.{boolByte}
+use Rattle.common.proofs.AllLaws.{all-getD}
 use Rattle.decode.proofs.Accepted.{machine-ok, olds-ok}
 use Rattle.decode.proofs.Back.{machine-back, olds-back}
 use Rattle.decode.proofs.Tested.{flag-small, bank-ok, state-small, auto-small, auto-tests, progress-tests, place-small, old-tests}
 use Rattle.fields.specs.Little.{le, joined}
 use Rattle.fields.proofs.Number.{number}
 use Rattle.image.specs.Encode.{image, encode}
-use Rattle.image.specs.Fit.{FitOld, FitOlds}
-use Rattle.image.specs.Groups.{autoKind, autoBits, autoCountdown, stateByte, present, progressChannel, progressUnit, place, noOld}
+use Rattle.image.specs.Groups.{autoKind, autoBits, autoCountdown, stateByte, present, progressChannel, progressUnit, place}
 use Rattle.ranges.specs.Entry.{kindTests, cycleTests, autoTests, dmaTests, oldTests, entryTests, entryOk}
 use Rattle.ranges.specs.Machine.{machineTests, machineOk}
-use Rattle.ranges.specs.Olds.{blankTests, oldsTests, oldsOk}
-use Rattle.ranges.specs.Tests.{all, when, lowZero}
+use Rattle.ranges.specs.Tests.{all, lowZero}
 use Rattle.ranges.proofs.Tests.{every, whole}
 use Rattle.registers.specs.declared.pads.AutoJoypad.{AutoJoypad}
 use Rattle.registers.specs.declared.pads.AutoJoypad.the-variants.{Idle, Pending, Reading}
-use Rattle.state.specs.Widths.{Fit32, FitAuto, FitProgress, Fit, noLine}
+use Rattle.registers.specs.Fit.{Long, FitAuto}
+use Rattle.state.specs.Fit.{FitProgress, FitMachine}
+use Rattle.state.specs.Hdma.{noHdma}
 use Rattle.state.specs.declared.DmaProgress.{DmaProgress}
 use Rattle.state.specs.declared.DmaProgress.the-variants.{Nothing, At}
 use Rattle.state.specs.declared.HdmaChannelState.{HdmaChannelState}
 use Rattle.state.specs.declared.Machine.{Machine}
+use Rattle.wram.specs.Olds.{noOld}
+use Rattle.wram.specs.Ranges.{FitOld, OldsOk}
 use Rattle.wram.specs.declared.Old.{Old}
 use Rattle.wram.specs.declared.Olds.{Olds}
 
-countdown-fits : (a : AutoJoypad) → FitAuto a → Fit32 (autoCountdown a)
+countdown-fits : (a : AutoJoypad) → FitAuto a → Long (autoCountdown a)
 countdown-fits Idle h = omega arith
 countdown-fits (Pending countdown) h = h
 countdown-fits (Reading bits countdown) h = h .1
 
-unit-fits : (p : DmaProgress) → FitProgress p → Fit32 (progressUnit p)
+unit-fits : (p : DmaProgress) → FitProgress p → Long (progressUnit p)
 unit-fits Nothing h = omega arith
 unit-fits (At channel unit) h = h .1
 
 -- an old byte in a slot
-slot : (x : Old) (count i : ℕ) → FitOld x → when (leb count i) (all (blankTests x)) ≡ true → all (oldTests count i (joined (le 3 (place x))) (x .byte)) ≡ true
+slot : (x : Old) (count i : ℕ) → FitOld x → (count ≤ i → x ≡ noOld) → all (oldTests count i (joined (le 3 (place x))) (x .byte)) ≡ true
 slot x count i g h =
     let small : place x < 256 ^ 3 = omega (arith, place-small x g) in
     ap (λ (p : ℕ). all (oldTests count i p (x .byte))) (number 3 (place x) small) ∙ old-tests x count i g h
 
-module _ (m : Machine) (o : Olds) (f : Fit m) (g : FitOlds o) where
-  pub entry-ok : machineOk m ≡ true → oldsOk o ≡ true → entryOk (encode m o) ≡ true
-  unfolding machineOk oldsOk entryOk entryTests encode image
-  entry-ok p q =
+module _ (m : Machine) (o : Olds) (f : FitMachine m) where
+  -- in the ranges, so is the entry
+  pub entry-ok : machineOk m ≡ true → OldsOk o → entryOk (encode m o) ≡ true
+  unfolding machineOk entryOk entryTests encode image
+  entry-ok p g =
       let t = every (machineTests m) p in
-      let s = every (oldsTests o) q in
       let pads = m .io .pads in
       let d = m .dma in
       let b = m .board in
       let cycles = number 2 (b .bitcycles) (f .board .bitcycles) in
-      let line : ℕ → HdmaChannelState = λ k. getD (d .channels) k noLine in
+      let line : ℕ → HdmaChannelState = λ k. getD (d .channels) k noHdma in
       let old : ℕ → Old = λ k. getD (o .items) k noOld in
+      let fits : (k : ℕ) → FitOld (old k) = λ k. all-getD FitOld (o .items) k noOld (g .fits) (record { addr = omega arith; byte = omega arith }) in
       λ i.
       all
-      (whole (kindTests (autoKind (pads .auto)) (stateByte (d .state)) (o .count)) (auto-small (pads .auto), (state-small (d .state), (s .0, tt {0}))) i
+      (whole (kindTests (autoKind (pads .auto)) (stateByte (d .state)) (o .count)) (auto-small (pads .auto), (state-small (d .state), (le-leb (o .count) 4 (g .filled .most), tt {0}))) i
       ∷ true
       ∷ all
       (flag-small (pads .port1 .connected) i
@@ -102,18 +106,12 @@ module _ (m : Machine) (o : Olds) (f : Fit m) (g : FitOlds o) where
       ∷ [])
       ∷ ((λ j. all (dmaTests (boolByte (present (d .progress))) (progressChannel (d .progress)) (number 4 (progressUnit (d .progress)) (unit-fits (d .progress) (f .dma .progress)) j) (number 4 (d .wait) (f .dma .wait) j)))
       ∙ progress-tests (d .progress) (d .wait) (t .1 .1 .1 .1 .1 .1 .1 .0) (t .1 .1 .1 .1 .1 .1 .1 .1 .0)) i
-      ∷ slot (old 0) (o .count) 0 (g .items .each 0) (s .1 .0) i
-      ∷ slot (old 1) (o .count) 1 (g .items .each 1) (s .1 .1 .0) i
-      ∷ slot (old 2) (o .count) 2 (g .items .each 2) (s .1 .1 .1 .0) i
-      ∷ slot (old 3) (o .count) 3 (g .items .each 3) (s .1 .1 .1 .1 .0) i
+      ∷ slot (old 0) (o .count) 0 (fits 0) (g .filled .unused 0) i
+      ∷ slot (old 1) (o .count) 1 (fits 1) (g .filled .unused 1) i
+      ∷ slot (old 2) (o .count) 2 (fits 2) (g .filled .unused 2) i
+      ∷ slot (old 3) (o .count) 3 (fits 3) (g .filled .unused 3) i
       ∷ [])
 
-  -- what back tests of an entry is what the calls test of the machine, and that the old bytes are well formed
-  pub agree : entryOk (encode m o) ≡ (machineOk m && oldsOk o)
-  agree = same (entryOk (encode m o)) (machineOk m) (oldsOk o) entry-ok (λ h. ap machineOk (sym (machine-back m o f)) ∙ machine-ok (encode m o) h) (λ h. ap oldsOk (sym (olds-back m o g)) ∙ olds-ok (encode m o) h)
-    where
-      same : (a b c : Bool) → (b ≡ true → c ≡ true → a ≡ true) → (a ≡ true → b ≡ true) → (a ≡ true → c ≡ true) → a ≡ (b && c)
-      same true b c h p q = rw (p refl, q refl)
-      same false true true h p q = h refl refl
-      same false true false h p q = refl
-      same false false c h p q = refl
+  -- and only then
+  pub machine-only : entryOk (encode m o) ≡ true → machineOk m ≡ true
+  machine-only h = ap machineOk (sym (machine-back m o f)) ∙ machine-ok (encode m o) h

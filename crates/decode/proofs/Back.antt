@@ -5,19 +5,23 @@ use mathlib.Core.Path.{_≡_, _∙_}
 use native.Mathlib.Omega.{arith}
 use lib.Dec.{eqb}
 use lib.ListN.{getD}
+use Rattle.common.proofs.AllLaws.{all-getD}
 use Rattle.decode.specs.Decode.{channelAt, channelsAt, ioAt, dmaAt, boardAt, machineAt, oldsAt, portAt, lineAt, oldAt}
 use Rattle.decode.proofs.Field.{flag, bank, auto, progress, state, array}
 use Rattle.fields.proofs.Number.{number}
 use Rattle.image.specs.Encode.{image, encode}
-use Rattle.image.specs.Fit.{FitOld, FitOlds}
-use Rattle.image.specs.Groups.{encPort, encChannel, encLine, encOld, noOld}
+use Rattle.image.specs.Groups.{encPort, encChannel, encLine, encOld}
 use Rattle.image.proofs.Rows.{place-bytes}
 use Rattle.joypad.specs.declared.ControllerPort.{ControllerPort}
 use Rattle.registers.specs.Channel.{noChannel}
+use Rattle.registers.specs.Fit.{FitPort, FitChannel}
 use Rattle.registers.specs.declared.channel.DmaChannel.{DmaChannel}
-use Rattle.state.specs.Widths.{FitPort, FitChannel, Fit, noLine}
+use Rattle.state.specs.Fit.{FitMachine}
+use Rattle.state.specs.Hdma.{noHdma}
 use Rattle.state.specs.declared.HdmaChannelState.{HdmaChannelState}
 use Rattle.state.specs.declared.Machine.{Machine}
+use Rattle.wram.specs.Olds.{noOld}
+use Rattle.wram.specs.Ranges.{FitOld, OldsOk}
 use Rattle.wram.specs.declared.Old.{Old}
 use Rattle.wram.specs.declared.Olds.{Olds}
 
@@ -56,13 +60,26 @@ old o h =
     word : _≡_ {A = ℕ} (o .addr % 256 + 256 * (o .addr / 256 + 256 * 0)) (o .addr)
     word = omega arith
 
-module _ (m : Machine) (o : Olds) (f : Fit m) where
+no-channel : FitChannel noChannel
+no-channel = record {
+  dmap = omega arith;
+  bbad = omega arith;
+  a1t = omega arith;
+  a1b = omega arith;
+  das = omega arith;
+  dasb = omega arith;
+  a2a = omega arith;
+  nltr = omega arith;
+  unused = omega arith;
+}
+
+module _ (m : Machine) (o : Olds) (f : FitMachine m) where
   channels-back : channelsAt (encode m o) ≡ m .io .channels
   unfolding encode image channelsAt channelAt
   channels-back =
       let l = m .io .channels in
-      let at : (k : ℕ) → channelAt (encChannel (getD l k noChannel)) 0 ≡ getD l k noChannel = λ k. channel (getD l k noChannel) (f .io .channels .each k) in
-      (λ i. at 0 i ∷ at 1 i ∷ at 2 i ∷ at 3 i ∷ at 4 i ∷ at 5 i ∷ at 6 i ∷ at 7 i ∷ []) ∙ array 8 l noChannel (f .io .channels .count)
+      let at : (k : ℕ) → channelAt (encChannel (getD l k noChannel)) 0 ≡ getD l k noChannel = λ k. channel (getD l k noChannel) (all-getD FitChannel l k noChannel (f .io .channels) no-channel) in
+      (λ i. at 0 i ∷ at 1 i ∷ at 2 i ∷ at 3 i ∷ at 4 i ∷ at 5 i ∷ at 6 i ∷ at 7 i ∷ []) ∙ array 8 l noChannel (f .io .channels-length)
 
   io-back : ioAt (encode m o) ≡ m .io
   unfolding encode image ioAt
@@ -97,9 +114,9 @@ module _ (m : Machine) (o : Olds) (f : Fit m) where
     channels = channels-back i;
     ports =
         record {
-          ppu = array 12 (m .io .ports .ppu) 0 (f .io .ports .ppu .count) i;
-          apu = array 4 (m .io .ports .apu) 0 (f .io .ports .apu .count) i;
-          written = array 4 (m .io .ports .written) 0 (f .io .ports .written .count) i;
+          ppu = array 12 (m .io .ports .ppu) 0 (f .io .ports .ppu-length) i;
+          apu = array 4 (m .io .ports .apu) 0 (f .io .ports .apu-length) i;
+          written = array 4 (m .io .ports .written) 0 (f .io .ports .written-length) i;
         };
     openbus = m .io .openbus;
   }
@@ -108,7 +125,7 @@ module _ (m : Machine) (o : Olds) (f : Fit m) where
   unfolding encode image dmaAt
   dma-back =
       let l = m .dma .channels in
-      let at : (k : ℕ) → lineAt (encLine (getD l k noLine)) 0 ≡ getD l k noLine = λ k. line (getD l k noLine) in
+      let at : (k : ℕ) → lineAt (encLine (getD l k noHdma)) 0 ≡ getD l k noHdma = λ k. line (getD l k noHdma) in
       λ i. record {
         state = state (m .dma .state) i;
         wait = number 4 (m .dma .wait) (f .dma .wait) i;
@@ -117,7 +134,7 @@ module _ (m : Machine) (o : Olds) (f : Fit m) where
         pending = flag (m .dma .pending) i;
         init = flag (m .dma .init) i;
         queue = m .dma .queue;
-        channels = ((λ j. at 0 j ∷ at 1 j ∷ at 2 j ∷ at 3 j ∷ at 4 j ∷ at 5 j ∷ at 6 j ∷ at 7 j ∷ []) ∙ array 8 l noLine (f .dma .channels .count)) i;
+        channels = ((λ j. at 0 j ∷ at 1 j ∷ at 2 j ∷ at 3 j ∷ at 4 j ∷ at 5 j ∷ at 6 j ∷ at 7 j ∷ []) ∙ array 8 l noHdma (f .dma .channels-length)) i;
       }
 
   board-back : boardAt (encode m o) ≡ m .board
@@ -136,12 +153,12 @@ module _ (m : Machine) (o : Olds) (f : Fit m) where
   machine-back = λ i. record { io = io-back i; dma = dma-back i; board = board-back i }
 
 -- the old bytes
-pub olds-back : (m : Machine) (o : Olds) → FitOlds o → oldsAt (encode m o) ≡ o
+pub olds-back : (m : Machine) (o : Olds) → OldsOk o → oldsAt (encode m o) ≡ o
 unfolding encode image oldsAt
 olds-back m o f =
     let l = o .items in
-    let at : (k : ℕ) → oldAt (encOld (getD l k noOld)) 0 ≡ getD l k noOld = λ k. old (getD l k noOld) (f .items .each k) in
+    let at : (k : ℕ) → oldAt (encOld (getD l k noOld)) 0 ≡ getD l k noOld = λ k. old (getD l k noOld) (all-getD FitOld l k noOld (f .fits) (record { addr = omega arith; byte = omega arith })) in
     λ i. record {
       count = o .count;
-      items = ((λ j. at 0 j ∷ at 1 j ∷ at 2 j ∷ at 3 j ∷ []) ∙ array 4 l noOld (f .items .count)) i;
+      items = ((λ j. at 0 j ∷ at 1 j ∷ at 2 j ∷ at 3 j ∷ []) ∙ array 4 l noOld (f .filled .size)) i;
     }

@@ -2,22 +2,20 @@
 use Prim.Native.Nat.{ℕ, zero, suc, _+_, _/_, _%_, _^_, _≤_, _<_}
 use mathlib.Core.Bool.{Bool, true, false}
 use mathlib.Core.List.{[], _∷_}
-use mathlib.Core.Path.{_≡_, refl, sym, _∙_}
+use mathlib.Core.Path.{_≡_, refl, sym, ap, _∙_}
 use native.Mathlib.Omega.{arith}
-use borrow.Author.Tests.{ltb-true, leb-true, eqb-true, lt-ltb, le-leb, eq-eqb, not-true}
+use borrow.Author.Tests.{ltb-true, leb-true, eqb-true, lt-ltb, le-leb}
 use lib.Dec.{leb, eqb}
 use lib.ListN.{getD}
 use mir.Val.{boolByte}
 use Rattle.common.specs.Pick.{pick}
 use Rattle.decode.specs.Cases.{bankOf, autoOf, progressOf, stateOf}
 use Rattle.fields.specs.Little.{joined}
-use Rattle.image.specs.Fit.{FitOld}
 use Rattle.image.specs.Groups.{bankByte, autoKind, autoBits, autoCountdown, stateByte, present, progressChannel, progressUnit, place, encOld}
 use Rattle.image.proofs.Rows.{place-bytes}
 use Rattle.ranges.specs.Entry.{bankOk, autoTests, dmaTests, oldTests}
 use Rattle.ranges.specs.Machine.{autoOk, progressOk}
-use Rattle.ranges.specs.Olds.{blankTests}
-use Rattle.ranges.specs.Tests.{all, when}
+use Rattle.ranges.specs.Tests.{all}
 use Rattle.ranges.proofs.Tests.{every, whole, asked, passed}
 use Rattle.registers.specs.declared.pads.AutoJoypad.{AutoJoypad}
 use Rattle.registers.specs.declared.pads.AutoJoypad.the-variants.{Idle, Pending, Reading}
@@ -27,6 +25,8 @@ use Rattle.state.specs.declared.DmaProgress.{DmaProgress}
 use Rattle.state.specs.declared.DmaProgress.the-variants.{Nothing, At}
 use Rattle.state.specs.declared.DmaState.{DmaState}
 use Rattle.state.specs.declared.DmaState.the-variants as dma
+use Rattle.wram.specs.Olds.{noOld}
+use Rattle.wram.specs.Ranges.{FitOld}
 use Rattle.wram.specs.declared.Old.{Old}
 
 -- ---- a flag
@@ -123,13 +123,6 @@ progress-tested (suc (suc x)) channel unit wait k h = absurd (omega (arith, leb-
 
 -- ---- an old byte
 
--- a blank one has the place 0
-blank-place : (o : Old) → all (blankTests o) ≡ true → place o ≡ 0
-blank-place o h =
-    let t = every (blankTests o) h in
-    let a : o .addr ≡ 0 = eqb-true (o .addr) 0 (t .1 .0) in
-    rw (not-true (o .high) (t .0), a)
-
 pub place-small : (o : Old) → FitOld o → place o < 131072
 place-small o f = go (o .high)
   where
@@ -137,34 +130,29 @@ place-small o f = go (o .high)
     go true = omega (arith, f .addr)
     go false = omega (arith, f .addr)
 
-pub old-tests : (o : Old) (count i : ℕ) → FitOld o → when (leb count i) (all (blankTests o)) ≡ true → all (oldTests count i (place o) (o .byte)) ≡ true
+-- an unused slot is zero
+pub old-tests : (o : Old) (count i : ℕ) → FitOld o → (count ≤ i → o ≡ noOld) → all (oldTests count i (place o) (o .byte)) ≡ true
 old-tests o count i f h =
+    let zero-old : Old → Bool = λ x. all (eqb (place x) 0 ∷ eqb (x .byte) 0 ∷ []) in
     whole (oldTests count i (place o) (o .byte)) (
       lt-ltb (place o) 131072 (place-small o f),
-      (
-        passed (leb count i) (all (eqb (place o) 0 ∷ eqb (o .byte) 0 ∷ []))
-            (λ e.
-            let b = asked (leb count i) (all (blankTests o)) h e in
-            whole (eqb (place o) 0 ∷ eqb (o .byte) 0 ∷ []) (eq-eqb (place o) 0 (blank-place o b), (every (blankTests o) b .1 .1 .0, tt {0}))),
-        tt {0},
-      ),
+      (passed (leb count i) (zero-old o) (λ e. ap zero-old (h (leb-true count i e))), tt {0}),
     )
 
 -- the old byte that four bytes stand for
 abbrev pub oldOf : (x y z byte : ℕ) → Old
 oldOf x y z byte = record { high = eqb z 1; addr = joined (x ∷ y ∷ []); byte = byte }
 
-pub old-tested : (x y z byte count i : ℕ) → all (oldTests count i (joined (x ∷ y ∷ z ∷ [])) byte) ≡ true → when (leb count i) (all (blankTests (oldOf x y z byte))) ≡ true
-old-tested x y z byte count i h =
+pub old-tested : (x y z byte count i : ℕ) → all (oldTests count i (joined (x ∷ y ∷ z ∷ [])) byte) ≡ true → count ≤ i → oldOf x y z byte ≡ noOld
+old-tested x y z byte count i h k =
     let p : ℕ = joined (x ∷ y ∷ z ∷ []) in
     let t = every (oldTests count i p byte) h in
-    passed (leb count i) (all (blankTests (oldOf x y z byte)))
-    (λ e.
-    let b = every (eqb p 0 ∷ eqb byte 0 ∷ []) (asked (leb count i) (all (eqb p 0 ∷ eqb byte 0 ∷ [])) (t .1 .0) e) in
+    let b = every (eqb p 0 ∷ eqb byte 0 ∷ []) (asked (leb count i) (all (eqb p 0 ∷ eqb byte 0 ∷ [])) (t .1 .0) (le-leb count i k)) in
     let q : p ≡ 0 = eqb-true p 0 (b .0) in
     let u : z ≡ 0 = omega arith in
     let v : joined (x ∷ y ∷ []) ≡ 0 = omega arith in
-    whole (blankTests (oldOf x y z byte)) (rw u refl, (eq-eqb (joined (x ∷ y ∷ [])) 0 v, (b .1 .0, tt {0}))))
+    let w : byte ≡ 0 = eqb-true byte 0 (b .1 .0) in
+    λ j. record { high = eqb (u j) 1; addr = v j; byte = w j }
 
 -- a place under 131,072 has the bank as its third byte
 pub old-bytes : (x y z byte count i : ℕ) → x < 2 ^ 8 → y < 2 ^ 8 → all (oldTests count i (joined (x ∷ y ∷ z ∷ [])) byte) ≡ true → encOld (oldOf x y z byte) ≡ x ∷ y ∷ z ∷ byte ∷ []

@@ -19,7 +19,8 @@ use Rattle.transfer.proofs.FitLaws.{sent-fits, table-fits, das-fits}
 use Rattle.transfer.specs.Bits.{flagOf}
 use Rattle.transfer.specs.Table.{tableRead}
 use Rattle.wram.specs.Ranges.{FitBytes}
-use Rattle.hdma.specs.Engine.{DmaWorld, noHdma, hdmaAt, setHdma}
+use Rattle.hdma.specs.Engine.{DmaWorld, hdmaAt, setHdma}
+use Rattle.state.specs.Hdma.{noHdma}
 use Rattle.hdma.specs.Entry.{Reloaded, indirectAt, started, reloaded, counted, rewound, initChannel}
 use Rattle.hdma.specs.Fit.{FitDmaWorld}
 use Rattle.hdma.specs.Line.{lineChannel}

@@ -1,9 +1,10 @@
 -- The DMA unit (src/dma.rs, struct Dma) beside the world of the bus. antt has no record update, so each field has its setter.
 use Prim.Native.Nat.{ℕ, _%_}
-use mathlib.Core.Bool.{Bool, false}
+use mathlib.Core.Bool.{Bool}
 use mathlib.Core.List.{List}
 use lib.ListN.{getD, set}
 use Rattle.bus.specs.World.{World, world}
+use Rattle.state.specs.Hdma.{noHdma}
 use Rattle.state.specs.declared.Dma.{Dma}
 use Rattle.state.specs.declared.DmaProgress.{DmaProgress}
 use Rattle.state.specs.declared.DmaState.{DmaState}
@@ -44,9 +45,6 @@ dmaWorld m l h = record { world = world (m .core) l h; dma = m .dma }
 
 abbrev pub at : World → Dma → DmaWorld
 at w d = record { world = w; dma = d }
-
-abbrev pub noHdma : HdmaChannelState
-noHdma = record { counter = 0; transfer = false; finished = false }
 
 -- a channel's HDMA state
 abbrev pub hdmaAt : Dma → ℕ → HdmaChannelState

@@ -4,13 +4,14 @@ use Prim.Native.Nat.{ℕ}
 use mathlib.Core.List.{List, _++_}
 use lib.ListN.{getD, take, drop, replicate}
 use Rattle.fields.specs.Little.{le}
-use Rattle.image.specs.Groups.{byte, flag, rows, bytes, bankByte, autoKind, autoBits, autoCountdown, encPort, stateByte, present, progressChannel, progressUnit, encLine, encChannel, encOld, noOld}
+use Rattle.image.specs.Groups.{byte, flag, rows, bytes, bankByte, autoKind, autoBits, autoCountdown, encPort, stateByte, present, progressChannel, progressUnit, encLine, encChannel, encOld}
 use Rattle.registers.specs.Channel.{noChannel}
 use Rattle.registers.specs.declared.Ports.{Ports}
 use Rattle.registers.specs.declared.channel.DmaChannel.{DmaChannel}
-use Rattle.state.specs.Widths.{noLine}
+use Rattle.state.specs.Hdma.{noHdma}
 use Rattle.state.specs.declared.HdmaChannelState.{HdmaChannelState}
 use Rattle.state.specs.declared.Machine.{Machine}
+use Rattle.wram.specs.Olds.{noOld}
 use Rattle.wram.specs.declared.Olds.{Olds}
 
 -- how many bytes an entry has, and how many of them are the machine's image
@@ -22,7 +23,7 @@ imageSize = 222
 
 -- eight of (line counter, do transfer, finished)
 abbrev pub encLines : List HdmaChannelState → List ℕ
-encLines l = rows 8 (λ i. encLine (getD l i noLine))
+encLines l = rows 8 (λ i. encLine (getD l i noHdma))
 
 -- eight of 12 (dmap, bbad, A1T address, bank, das, dasb, a2a, nltr, unused)
 abbrev pub encChannels : List DmaChannel → List ℕ

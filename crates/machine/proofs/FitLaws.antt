@@ -9,7 +9,6 @@ use Rattle.common.proofs.AllLaws.{all-replicate}
 use Rattle.common.proofs.TableLaws.{pick-elim}
 use Rattle.bus.proofs.FitLaws.{opened-fits}
 use Rattle.dma.proofs.FitLaws.{updated-fits}
-use Rattle.hdma.specs.Engine.{noHdma}
 use Rattle.hdma.specs.Fit.{FitDmaWorld}
 use Rattle.registers.proofs.FitGroups.{fit-pads}
 use Rattle.registers.proofs.FitKept.{fit-power-on}
@@ -18,20 +17,17 @@ use Rattle.registers.specs.Fit.{Word, FitIo}
 use Rattle.registers.specs.Write.{irqDisabled}
 use Rattle.registers.specs.declared.Io.{Io}
 use Rattle.signals.proofs.FitKept.{fit-nmi-flag, fit-timeup-flag, fit-hvbjoy, fit-auto-start, fit-auto-step}
+use Rattle.state.specs.Hdma.{noHdma}
 use Rattle.state.specs.Fit.{FitHdma, FitDma, FitBoard, FitMachine}
 use Rattle.state.specs.declared.Board.{Board}
 use Rattle.state.specs.declared.Dma.{Dma}
 use Rattle.state.specs.declared.Machine.{Machine}
 use Rattle.wram.specs.Ranges.{FitBytes}
-use Rattle.machine.specs.Cycle.{Turned, armed, ticked, begun, cycled}
+use Rattle.machine.specs.Cycle.{machineAfter, armed, ticked, begun, cycled}
 use Rattle.machine.specs.Event.{pressed, vblankStarted, frameStarted, evented, settled, timed}
 use Rattle.machine.specs.PowerOn.{powerOnDma, powerOnMachine}
 use Rattle.machine.specs.declared.event.Event.{Event}
 use Rattle.machine.specs.declared.event.Event.the-variants.{Nothing, HBlankStart, NormalLine, VBlankStart, FrameStart}
-
--- the machine that a cycle leaves
-abbrev pub machineAfter : Turned → Machine
-machineAfter t = record { io = t .after .world .core .io; dma = t .after .dma; board = t .board }
 
 pub power-on-fits : (bitcycles : ℕ) → Word bitcycles → FitMachine (powerOnMachine bitcycles)
 unfolding powerOnMachine powerOnDma

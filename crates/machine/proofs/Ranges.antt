@@ -22,8 +22,8 @@ use Rattle.state.specs.declared.Dma.{Dma}
 use Rattle.state.specs.declared.Machine.{Machine}
 use Rattle.wram.specs.Ranges.{FitBytes, OldsOk}
 use Rattle.machine.proofs.Adds.{cycle-recorded}
-use Rattle.machine.proofs.FitLaws.{machineAfter, begun-fits, cycle-fits}
-use Rattle.machine.specs.Cycle.{armed, settledOf, begun, cycled}
+use Rattle.machine.proofs.FitLaws.{begun-fits, cycle-fits}
+use Rattle.machine.specs.Cycle.{machineAfter, armed, settledOf, begun, cycled}
 use Rattle.machine.specs.Event.{pressed, vblankStarted, frameStarted, evented, settled, timed}
 use Rattle.machine.specs.PowerOn.{powerOnDma, powerOnMachine}
 use Rattle.machine.specs.declared.event.Event.{Event}

@@ -38,6 +38,10 @@ pub record Turned : Type 0 where
   pub held : Bool
   pub edge : Bool
 
+-- the machine that a cycle leaves
+abbrev pub machineAfter : Turned → Machine
+machineAfter t = record { io = t .after .world .core .io; dma = t .after .dma; board = t .board }
+
 abbrev pub turning : Turn → List ℕ → List ℕ → Turned
 turning r l h = record { after = at (world (r .core) l h) (r .dma); board = r .board; held = r .held; edge = r .edge }
 

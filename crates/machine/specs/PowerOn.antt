@@ -2,7 +2,7 @@
 use Prim.Native.Nat.{ℕ}
 use mathlib.Core.Bool.{false}
 use lib.ListN.{replicate}
-use Rattle.hdma.specs.Engine.{noHdma}
+use Rattle.state.specs.Hdma.{noHdma}
 use Rattle.registers.specs.PowerOn.{powerOn}
 use Rattle.state.specs.declared.Dma.{Dma}
 use Rattle.state.specs.declared.DmaProgress.the-variants.{Nothing}

@@ -1,4 +1,3 @@
 pub mod Tests
 pub mod Machine
-pub mod Olds
 pub mod Entry

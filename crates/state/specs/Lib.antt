@@ -1,3 +1,3 @@
+pub mod Hdma
 pub mod Fit
 pub mod Ranges
-pub mod Widths

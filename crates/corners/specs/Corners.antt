@@ -1,0 +1,106 @@
+-- Document 01, "Corners proved together": for (a) to (j) what the definitions give, that the code is proved against, beside what the
+-- document lists. Yes is 1 and no is 0.
+use Prim.Native.Nat.{ℕ, zero, suc, _+_}
+use mathlib.Core.Bool.{Bool, true, false}
+use mathlib.Core.List.{List, [], _∷_}
+use lib.ListN.{set}
+use mir.Val.{boolByte}
+use Rattle.bus.specs.Access.{opened}
+use Rattle.bus.specs.World.{world}
+use Rattle.dma.specs.Cycle.{alignment}
+use Rattle.hdma.specs.Engine.{DmaWorld, at, withChannels, hdmaAt}
+use Rattle.hdma.specs.Entry.{counted}
+use Rattle.hdma.specs.Line.{lineChannel}
+use Rattle.joypad.specs.declared.ControllerPort.{ControllerPort}
+use Rattle.machine.specs.Cycle.{machineAfter, cycled}
+use Rattle.machine.specs.PowerOn.{powerOnDma, powerOnMachine}
+use Rattle.machine.specs.declared.event.Event.the-variants.{Nothing}
+use Rattle.registers.specs.Groups.{withIo-channels, withIo-openbus, withIo-pads, withPads-port1}
+use Rattle.registers.specs.Maths.{multiplying, dividing, rddivRead, rdmpyRead}
+use Rattle.registers.specs.PowerOn.{powerOn}
+use Rattle.registers.specs.Read.{readByte}
+use Rattle.registers.specs.WmAdd.{stepped}
+use Rattle.registers.specs.WmNumber.{bit16}
+use Rattle.registers.specs.Write.{writeIo}
+use Rattle.registers.specs.declared.Io.{Io}
+use Rattle.registers.specs.declared.channel.DmaChannel.{DmaChannel}
+use Rattle.registers.specs.declared.wm_address.WmAddBank.{WmAddBank}
+use Rattle.registers.specs.declared.wm_address.WmAddBank.the-variants.{Bank7E, Bank7F}
+use Rattle.registers.specs.declared.wm_address.WmAddress.{WmAddress}
+use Rattle.state.specs.Hdma.{noHdma}
+use Rattle.state.specs.declared.Dma.{Dma}
+use Rattle.state.specs.declared.HdmaChannelState.{HdmaChannelState}
+use Rattle.state.specs.declared.Machine.{Machine}
+use Rattle.transfer.specs.Pattern.{offsetOf, bAddress}
+
+-- what the definitions give, and what document 01 lists
+pub record Corner : Type 0 where
+  pub given : List ℕ
+  pub listed : List ℕ
+
+infix 5 _gives_
+abbrev pub _gives_ : List ℕ → List ℕ → Corner
+g gives l = record { given = g; listed = l }
+
+abbrev pub bank : WmAddBank → ℕ
+bank b = 0x7E + bit16 b
+
+-- WMADD one step on, as bank and address
+abbrev pub step : WmAddBank → List ℕ
+step b = let w = stepped (record { bank = b; addr = 0xFFFF }) in bank (w .bank) ∷ w .addr ∷ []
+
+-- a line counter after a transferring line, and whether the next line transfers
+abbrev pub line : ℕ → List ℕ
+line n =
+    let d = withChannels powerOnDma (record { counter = n; transfer = true; finished = false } ∷ []) in
+    let h = hdmaAt (counted d 0 0) 0 in
+    h .counter ∷ boolByte (h .transfer) ∷ []
+
+-- the open bus is $FF; controller port 2's data is 0, and port 1's is 1
+abbrev pub floating : Io
+floating =
+    withIo-openbus (withIo-pads powerOn (withPads-port1 (powerOn .pads) (record { connected = true; latch = false; buttons = 0; shift = 0x8000 }))) 0xFF
+
+-- an indirect channel in mode 4, whose table in the ROM begins with counter 1 and an address
+abbrev pub indirect : DmaChannel
+indirect = record { dmap = 0x44; bbad = 0x18; a1t = 0x8000; a1b = 0; das = 0; dasb = 0x7E; a2a = 0x8000; nltr = 0; unused = 0 }
+
+abbrev pub reloading : DmaWorld
+reloading =
+    let w = world (opened (withIo-channels powerOn (set (powerOn .channels) 0 indirect))) [] [] in
+    lineChannel (1 ∷ 0 ∷ 0 ∷ []) (at w (withChannels powerOnDma (noHdma ∷ []))) 0
+
+-- HDMAEN has one channel, and it has finished
+abbrev pub finishedOne : Machine
+finishedOne =
+    let m = powerOnMachine 264 in
+    record {
+      io = writeIo (m .io) 0x420C 1;
+      dma = withChannels (m .dma) (set (m .dma .channels) 0 (record { counter = 0; transfer = false; finished = true }));
+      board = m .board;
+    }
+
+-- how many of the next n cycles are held, where a line is due in the first or not
+unfoldable pub held : ℕ → Bool → Machine → ℕ
+held zero due m = 0
+held (suc n) due m = let t = cycled [] m [] [] Nothing due false in boolByte (t .held) + held n false (machineAfter t)
+
+abbrev pub corners : List Corner
+corners =
+    alignment 0 ∷ alignment 1 ∷ alignment 15 ∷ [] gives 8 ∷ 7 ∷ 1 ∷ []  -- (a)
+    ∷ rddivRead (dividing powerOn 1000 7) ∷ rdmpyRead (dividing powerOn 1000 7) ∷ [] gives 142 ∷ 6 ∷ []  -- (b)
+    ∷ rddivRead (dividing powerOn 1000 0) ∷ rdmpyRead (dividing powerOn 1000 0) ∷ [] gives 65535 ∷ 1000 ∷ []  -- (b)
+    ∷ rdmpyRead (multiplying powerOn 255 255) ∷ [] gives 65025 ∷ []  -- (c)
+    ∷ step Bank7E gives 0x7F ∷ 0x0000 ∷ []  -- (d)
+    ∷ step Bank7F gives 0x7E ∷ 0x0000 ∷ []  -- (d)
+    ∷ bank (writeIo powerOn 0x2183 0xFE .wmadd .bank) ∷ bank (writeIo powerOn 0x2183 1 .wmadd .bank) ∷ [] gives 0x7E ∷ 0x7F ∷ []  -- (e)
+    ∷ offsetOf 5 0 ∷ offsetOf 5 1 ∷ offsetOf 5 2 ∷ offsetOf 5 3 ∷ [] gives 0 ∷ 1 ∷ 0 ∷ 1 ∷ []  -- (f)
+    ∷ bAddress 0xFF 1 ∷ [] gives 0x2100 ∷ []  -- (f)
+    ∷ line 1 gives 0 ∷ 1 ∷ []  -- (g)
+    ∷ line 2 gives 1 ∷ 0 ∷ []  -- (g)
+    ∷ line 0x81 gives 0x80 ∷ 1 ∷ []  -- (g)
+    ∷ line 0x80 gives 0x7F ∷ 1 ∷ []  -- (g)
+    ∷ readByte floating 0x4017 ∷ readByte floating 0x4016 ∷ [] gives 0xFC ∷ 0xFD ∷ []  -- (h)
+    ∷ reloading .dma .wait + 1 ∷ [] gives 56 ∷ []  -- (i)
+    ∷ held 40 true finishedOne ∷ [] gives 20 ∷ []  -- (j)
+    ∷ []

@@ -1,0 +1,4 @@
+pub mod History
+pub mod Rules
+pub mod Run
+pub mod Promise

@@ -1,0 +1,67 @@
+-- Demand 3: after any run of operations and back steps from fresh, some refused, the state is exactly what demand 2's rules give
+-- for the survivors alone; a back step is refused exactly when the record keeps none.
+use Prim.Native.Nat.{ℕ, _≤_}
+use mathlib.Core.List.{List, map, reverse}
+use mathlib.Core.Logic.{_≢_}
+use mathlib.Core.Path.{_≡_}
+use lib.Dec.{eqb}
+use lib.ListN.{length, take}
+use Rattle.bench.specs.Calls.{Desk, desk, freshCall}
+use Rattle.bench.specs.Ring.{capacity}
+use Rattle.common.specs.All.{AllOf}
+use Rattle.common.specs.Pick.{pick}
+use Rattle.registers.specs.Fit.{Word}
+use Rattle.rewind.specs.History.{Deed, survivors, keptOps}
+use Rattle.rewind.specs.Rules.{Op, obeyedAll}
+use Rattle.rewind.specs.Run.{Call, operation, back, TypedCall, called, run, deeds, stateOf}
+use Rattle.wram.specs.Ranges.{FitBytes}
+
+-- what is lent: a ROM that is not too long, two whole banks with any fill, a record of fresh's length; all of them bytes
+pub record Lent (rom low high entries : List ℕ) (length₀ : ℕ) : Type 0 where
+  pub rom-bytes : FitBytes rom
+  pub rom-most : length rom ≤ 4194304
+  pub low-bytes : FitBytes low
+  pub low-length : length low ≡ 65536
+  pub high-bytes : FitBytes high
+  pub high-length : length high ≡ 65536
+  pub entries-length : length entries ≡ length₀
+
+-- a desk from fresh
+abbrev pub freshDesk : (length₀ bitcycles : ℕ) → (low high entries : List ℕ) → Desk
+freshDesk length₀ bitcycles low high entries = desk (freshCall length₀ bitcycles .bench) low high entries
+
+-- no call is refused by 1, 2, 3, 4 or 9
+pub record Sound (number : ℕ) : Type 0 where
+  pub no1 : number ≢ 1
+  pub no2 : number ≢ 2
+  pub no3 : number ≢ 3
+  pub no4 : number ≢ 4
+  pub no9 : number ≢ 9
+
+-- what is promised of the calls cs, made on the desk d₀
+module _ (rom : List ℕ) (d₀ : Desk) (cs : List Call) where
+  -- the operations that survive, in the order made, and those that the record keeps
+  abbrev pub alive : List Op
+  alive = reverse (survivors (deeds rom d₀ cs))
+
+  abbrev pub kept : ℕ
+  kept = length (keptOps (capacity (d₀ .bench)) (deeds rom d₀ cs))
+
+  pub record Rewound : Type 0 where
+    -- the state is what the survivors give when called alone
+    pub alone : stateOf (run rom d₀ (map operation alive)) ≡ stateOf (run rom d₀ cs)
+    -- and what the rules give for them, with no record and no refusal
+    pub rules : obeyedAll rom (stateOf d₀) alive ≡ stateOf (run rom d₀ cs)
+    -- the machine counts the operations that the record keeps
+    pub counted : run rom d₀ cs .bench .kept ≡ kept
+    -- they are the latest survivors
+    pub latest : map (λ p. p .op) (keptOps (capacity (d₀ .bench)) (deeds rom d₀ cs)) ≡ take kept (survivors (deeds rom d₀ cs))
+    -- a back step is refused exactly where there is none, and then by 8
+    pub refused : called rom back (run rom d₀ cs) .number ≡ pick (eqb kept 0) 8 0
+    -- whatever call comes next
+    pub sound : (c : Call) → TypedCall c → Sound (called rom c (run rom d₀ cs) .number)
+
+-- demand 3
+abbrev pub Demand3 : Type 0
+Demand3 = (rom low high entries : List ℕ) (length₀ bitcycles : ℕ) → Lent rom low high entries length₀ → Word bitcycles
+    → freshCall length₀ bitcycles .number ≡ 0 → (cs : List Call) → AllOf TypedCall cs → Rewound rom (freshDesk length₀ bitcycles low high entries) cs

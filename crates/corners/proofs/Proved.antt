@@ -1,5 +1,6 @@
 -- Every corner, by computation.
 use mathlib.Core.List.{map}
+use lib.Count.{trailingZeros}
 use mathlib.Core.Path.{_≡_, refl}
 use Rattle.bus.specs.Access.{pushAccess, opened, ioWritten, registerRead}
 use Rattle.bus.specs.Route.{systemRoute, routeOf, placeOf}
@@ -23,11 +24,5 @@ use Rattle.transfer.specs.Unit.{unitByte, unitBytes, sourceOf, sourceStored, un
 use Rattle.wram.specs.Olds.{pushOld, keptAt}
 
 pub proved : map (λ c. c .given) corners ≡ map (λ c. c .listed) corners
-unfolding held pushAccess opened ioWritten registerRead systemRoute routeOf placeOf channelOf withChannel mdmaenOf hdmaenOf readAt writeAt
-
-unfolding startPending dueOf actBy acted updated drainedOf hdmaStep setHdma reloaded counted lineChannel armed cycled
-
-unfolding pressed evented settled timed powerOnDma powerOnMachine powerOn autoStep
-
-unfolding tripOf moved offsetOf unitLen tableRead dasLoaded unitByte unitBytes sourceOf sourceStored unitSent pushOld keptAt
+unfolding trailingZeros held pushAccess opened ioWritten registerRead systemRoute routeOf placeOf channelOf withChannel mdmaenOf hdmaenOf readAt writeAt startPending dueOf actBy acted updated drainedOf hdmaStep setHdma reloaded counted lineChannel armed cycled pressed evented settled timed powerOnDma powerOnMachine powerOn autoStep tripOf moved offsetOf unitLen tableRead dasLoaded unitByte unitBytes sourceOf sourceStored unitSent pushOld keptAt
 proved = refl

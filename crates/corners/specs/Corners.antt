@@ -38,12 +38,15 @@ pub record Corner : Type 0 where
   pub given : List ℕ
   pub listed : List ℕ
 
-infix 5 _gives_
-abbrev pub _gives_ : List ℕ → List ℕ → Corner
-g gives l = record { given = g; listed = l }
+abbrev pub corner : List ℕ → List ℕ → Corner
+corner given listed = record { given = given; listed = listed }
 
 abbrev pub bank : WmAddBank → ℕ
 bank b = 0x7E + bit16 b
+
+-- the bank that a byte written to $2183 gives
+abbrev pub bankWritten : ℕ → ℕ
+bankWritten v = bank (writeIo powerOn 0x2183 v .wmadd .bank)
 
 -- WMADD one step on, as bank and address
 abbrev pub step : WmAddBank → List ℕ
@@ -87,20 +90,20 @@ held (suc n) due m = let t = cycled [] m [] [] Nothing due false in boolByte (t 
 
 abbrev pub corners : List Corner
 corners =
-    alignment 0 ∷ alignment 1 ∷ alignment 15 ∷ [] gives 8 ∷ 7 ∷ 1 ∷ []  -- (a)
-    ∷ rddivRead (dividing powerOn 1000 7) ∷ rdmpyRead (dividing powerOn 1000 7) ∷ [] gives 142 ∷ 6 ∷ []  -- (b)
-    ∷ rddivRead (dividing powerOn 1000 0) ∷ rdmpyRead (dividing powerOn 1000 0) ∷ [] gives 65535 ∷ 1000 ∷ []  -- (b)
-    ∷ rdmpyRead (multiplying powerOn 255 255) ∷ [] gives 65025 ∷ []  -- (c)
-    ∷ step Bank7E gives 0x7F ∷ 0x0000 ∷ []  -- (d)
-    ∷ step Bank7F gives 0x7E ∷ 0x0000 ∷ []  -- (d)
-    ∷ bank (writeIo powerOn 0x2183 0xFE .wmadd .bank) ∷ bank (writeIo powerOn 0x2183 1 .wmadd .bank) ∷ [] gives 0x7E ∷ 0x7F ∷ []  -- (e)
-    ∷ offsetOf 5 0 ∷ offsetOf 5 1 ∷ offsetOf 5 2 ∷ offsetOf 5 3 ∷ [] gives 0 ∷ 1 ∷ 0 ∷ 1 ∷ []  -- (f)
-    ∷ bAddress 0xFF 1 ∷ [] gives 0x2100 ∷ []  -- (f)
-    ∷ line 1 gives 0 ∷ 1 ∷ []  -- (g)
-    ∷ line 2 gives 1 ∷ 0 ∷ []  -- (g)
-    ∷ line 0x81 gives 0x80 ∷ 1 ∷ []  -- (g)
-    ∷ line 0x80 gives 0x7F ∷ 1 ∷ []  -- (g)
-    ∷ readByte floating 0x4017 ∷ readByte floating 0x4016 ∷ [] gives 0xFC ∷ 0xFD ∷ []  -- (h)
-    ∷ reloading .dma .wait + 1 ∷ [] gives 56 ∷ []  -- (i)
-    ∷ held 40 true finishedOne ∷ [] gives 20 ∷ []  -- (j)
+    corner (alignment 0 ∷ alignment 1 ∷ alignment 15 ∷ []) (8 ∷ 7 ∷ 1 ∷ [])  -- (a)
+    ∷ corner (rddivRead (dividing powerOn 1000 7) ∷ rdmpyRead (dividing powerOn 1000 7) ∷ []) (142 ∷ 6 ∷ [])  -- (b)
+    ∷ corner (rddivRead (dividing powerOn 1000 0) ∷ rdmpyRead (dividing powerOn 1000 0) ∷ []) (65535 ∷ 1000 ∷ [])  -- (b)
+    ∷ corner (rdmpyRead (multiplying powerOn 255 255) ∷ []) (65025 ∷ [])  -- (c)
+    ∷ corner (step Bank7E) (0x7F ∷ 0x0000 ∷ [])  -- (d)
+    ∷ corner (step Bank7F) (0x7E ∷ 0x0000 ∷ [])  -- (d)
+    ∷ corner (bankWritten 0xFE ∷ bankWritten 1 ∷ []) (0x7E ∷ 0x7F ∷ [])  -- (e)
+    ∷ corner (offsetOf 5 0 ∷ offsetOf 5 1 ∷ offsetOf 5 2 ∷ offsetOf 5 3 ∷ []) (0 ∷ 1 ∷ 0 ∷ 1 ∷ [])  -- (f)
+    ∷ corner (bAddress 0xFF 1 ∷ []) (0x2100 ∷ [])  -- (f)
+    ∷ corner (line 1) (0 ∷ 1 ∷ [])  -- (g)
+    ∷ corner (line 2) (1 ∷ 0 ∷ [])  -- (g)
+    ∷ corner (line 0x81) (0x80 ∷ 1 ∷ [])  -- (g)
+    ∷ corner (line 0x80) (0x7F ∷ 1 ∷ [])  -- (g)
+    ∷ corner (readByte floating 0x4017 ∷ readByte floating 0x4016 ∷ []) (0xFC ∷ 0xFD ∷ [])  -- (h)
+    ∷ corner ((reloading .dma .wait + 1) ∷ []) (56 ∷ [])  -- (i)
+    ∷ corner (held 40 true finishedOne ∷ []) (20 ∷ [])  -- (j)
     ∷ []

@@ -9,11 +9,11 @@ use lib.Dec.{eqb}
 use lib.ListN.{length}
 use Rattle.bus.specs.View.{channelOf, withChannel, withMdmaen}
 use Rattle.bus.specs.declared.access.Core.{Core}
-use Rattle.common.proofs.TableLaws.{pick-elim}
+use Rattle.common.proofs.TableLaws.{pick-elim, pick-case}
 use Rattle.common.specs.Pick.{pick}
 use Rattle.dma.specs.General.{afterByte}
 use Rattle.fullsnes.proofs.Views.{channel-put}
-use Rattle.fullsnes.specs.Said.{bytesOf, dasAfter}
+use Rattle.fullsnes.specs.Said.{bytesOf, dasAfter, Lasts}
 use Rattle.hdma.specs.declared.engine.DmaCore.{DmaCore}
 use Rattle.registers.specs.Groups.{withDmaChannel-das}
 use Rattle.state.specs.declared.Dma.{Dma}
@@ -24,11 +24,10 @@ use Rattle.transfer.specs.Bits.{down}
 module _ (das : ℕ) (word : das < 65536) where
   -- as many as DAS says, or 65,536
   some : (0 < bytesOf das) × (bytesOf das ≤ 65536) × (bytesOf das % 65536 ≡ das)
-  some = go (eqb das 0) refl
-    where
-      go : (b : Bool) → eqb das 0 ≡ b → (0 < pick b 65536 das) × (pick b 65536 das ≤ 65536) × (pick b 65536 das % 65536 ≡ das)
-      go true e = let z : das ≡ 0 = eqb-true das 0 e in (omega arith, omega arith, omega arith)
-      go false e = let z : das ≢ 0 = eqb-false das 0 e in (omega arith, omega arith, omega arith)
+  some =
+      pick-case (λ n. (0 < n) × (n ≤ 65536) × (n % 65536 ≡ das)) (eqb das 0)
+      (λ e. let z : das ≡ 0 = eqb-true das 0 e in (omega arith, omega arith, omega arith))
+      (λ e. let z : das ≢ 0 = eqb-false das 0 e in (omega arith, omega arith, omega arith))
 
   -- after n of them so many are left
   left : (n : ℕ) → n ≤ bytesOf das → dasAfter n das ≡ (bytesOf das - n) % 65536
@@ -38,13 +37,12 @@ module _ (das : ℕ) (word : das < 65536) where
       let ih : dasAfter n das ≡ (bytesOf das - n) % 65536 = left n (omega arith) in
       ap (down 65536) ih ∙ omega (arith, some .1)
 
-  -- the last byte takes DAS to 0
-  pub last : dasAfter (bytesOf das) das ≡ 0
-  last = left (bytesOf das) (omega arith) ∙ omega arith
-
-  -- and no byte before it
-  pub going : (n : ℕ) → 0 < n → n < bytesOf das → dasAfter n das ≢ 0
-  going n p h e = let l : dasAfter n das ≡ (bytesOf das - n) % 65536 = left n (omega arith) in omega (arith, some .1)
+  pub lasts : Lasts das (bytesOf das)
+  lasts = record {
+    some = some .0;
+    last = left (bytesOf das) (omega arith) ∙ omega arith;
+    going = λ i p h e. let l : dasAfter i das ≡ (bytesOf das - i) % 65536 = left i (omega arith) in omega (arith, some .1);
+  }
 
 pick-map : {A B : Type 0} (f : A → B) (b : Bool) (x y : A) → f (pick b x y) ≡ pick b (f x) (f y)
 pick-map f true x y = refl

@@ -1,6 +1,5 @@
 -- The B-bus offsets of a unit are the pattern of its mode, over and over.
 use Prim.Native.Nat.{ℕ, zero, suc, _/_, _%_, _<_}
-use mathlib.Core.List.{List, [], _∷_}
 use mathlib.Core.Path.{_≡_, refl, _∙_}
 use native.Mathlib.Omega.{arith}
 use lib.ListN.{length, getD}
@@ -53,27 +52,27 @@ offset-0 u = let e : u % 1 ≡ 0 = omega arith in rw e
 
 offset-1 : (u : ℕ) → At 1 u
 unfolding offsetOf unitLen
-offset-1 u = halves (λ r. r ≡ getD (0 ∷ 1 ∷ []) r 0) refl refl u
+offset-1 u = halves (λ r. r ≡ getD (patternOf 1) r 0) refl refl u
 
 offset-2 : (u : ℕ) → At 2 u
 unfolding offsetOf unitLen
-offset-2 u = halves (λ r. _≡_ {A = ℕ} 0 (getD (0 ∷ 0 ∷ []) r 0)) refl refl u
+offset-2 u = halves (λ r. _≡_ {A = ℕ} 0 (getD (patternOf 2) r 0)) refl refl u
 
 offset-3 : (u : ℕ) → At 3 u
 unfolding offsetOf unitLen
 offset-3 u =
     let e : u / 2 % 2 ≡ u % 4 / 2 = omega arith in
-    e ∙ places (λ r. r / 2 ≡ getD (0 ∷ 0 ∷ 1 ∷ 1 ∷ []) r 0) refl refl refl refl (u % 4) (omega arith)
+    e ∙ places (λ r. r / 2 ≡ getD (patternOf 3) r 0) refl refl refl refl (u % 4) (omega arith)
 
 offset-4 : (u : ℕ) → At 4 u
 unfolding offsetOf unitLen
-offset-4 u = places (λ r. r ≡ getD (0 ∷ 1 ∷ 2 ∷ 3 ∷ []) r 0) refl refl refl refl (u % 4) (omega arith)
+offset-4 u = places (λ r. r ≡ getD (patternOf 4) r 0) refl refl refl refl (u % 4) (omega arith)
 
 offset-5 : (u : ℕ) → At 5 u
 unfolding offsetOf unitLen
 offset-5 u =
     let e : u % 2 ≡ u % 4 % 2 = omega arith in
-    e ∙ places (λ r. r % 2 ≡ getD (0 ∷ 1 ∷ 0 ∷ 1 ∷ []) r 0) refl refl refl refl (u % 4) (omega arith)
+    e ∙ places (λ r. r % 2 ≡ getD (patternOf 5) r 0) refl refl refl refl (u % 4) (omega arith)
 
 offset-6 : (u : ℕ) → At 6 u
 unfolding offsetOf unitLen

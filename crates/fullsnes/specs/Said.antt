@@ -3,6 +3,7 @@
 use Prim.Native.Nat.{ℕ, zero, suc, _+_, _-_, _%_, _<_}
 use mathlib.Core.Bool.{Bool, true, false}
 use mathlib.Core.List.{List, [], _∷_}
+use mathlib.Core.Logic.{_≢_}
 use mathlib.Core.Path.{_≡_}
 use lib.Dec.{eqb, ltb}
 use lib.ListN.{length, getD}
@@ -38,6 +39,12 @@ bytesOf das = pick (eqb das 0) 65536 das
 unfoldable pub dasAfter : ℕ → ℕ → ℕ
 dasAfter zero das = das
 dasAfter (suc n) das = down 65536 (dasAfter n das)
+
+-- a transfer of n bytes, one at least: the last of them takes DAS to 0, and none before it
+pub record Lasts (das n : ℕ) : Type 0 where
+  pub some : 0 < n
+  pub last : dasAfter n das ≡ 0
+  pub going : (i : ℕ) → 0 < i → i < n → dasAfter i das ≢ 0
 
 -- ---- an entry of an HDMA table: $01-$7F transfers on the first of so many lines, $81-$FF on each of so many less $80
 

@@ -20,7 +20,7 @@ use Rattle.registers.specs.declared.wm_address.WmAddBank.{WmAddBank}
 use Rattle.registers.specs.declared.wm_address.WmAddBank.the-variants as wm
 use Rattle.wram.proofs.FitLaws.{byte-fits, peeked-fits, poked-fits, kept-fits}
 use Rattle.wram.specs.Ranges.{FitBytes, FitPlace, OldsOk}
-use Rattle.bus.proofs.Adds.{Recorded, read-recorded, write-recorded}
+use Rattle.bus.proofs.Adds.{Recorded}
 use Rattle.bus.specs.Access.{opened, dataStepped, ioWritten, registerRead}
 use Rattle.bus.specs.Fit.{FitWorld, FitReading}
 use Rattle.bus.specs.Route.{routeOf, wmPlace, placeOf}
@@ -116,10 +116,3 @@ opened-fits f p q = record { io = f; olds = omega arith; ram = record { low = p;
 -- the bytes that an operation overwrote are as an entry has them
 pub olds-ok : {a o : ℕ} {io : Io} {l h : List ℕ} {w : World} → Recorded a o io l h w → FitWorld w → OldsOk (w .core .olds)
 olds-ok r f = record { filled = r .olds; fits = f .olds }
-
-module _ (io : Io) (l h : List ℕ) (b a : ℕ) (f : FitIo io) (p : FitBytes l) (q : FitBytes h) where
-  pub read-olds : (rom : List ℕ) → FitBytes rom → OldsOk (readAt rom (world (opened io) l h) b a .world .core .olds)
-  read-olds rom g = olds-ok (read-recorded rom io l h b a) (read-fits (opened-fits f p q) rom b a g .world)
-
-  pub write-olds : (v : ℕ) → Word a → Byte v → OldsOk (writeAt (world (opened io) l h) b a v .core .olds)
-  write-olds v i j = olds-ok (write-recorded io l h b a v) (write-fits (opened-fits f p q) b i j)

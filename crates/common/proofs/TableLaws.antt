@@ -17,6 +17,11 @@ pub pick-case : {A : Type 0} (P : A → Type 0) (b : Bool) {x y : A} → (b ≡ 
 pick-case P true p q = p refl
 pick-case P false p q = q refl
 
+-- what is made of a choice is the choice of what is made
+pub pick-map : {A B : Type 0} (f : A → B) (b : Bool) (x y : A) → f (pick b x y) ≡ pick b (f x) (f y)
+pick-map f true x y = refl
+pick-map f false x y = refl
+
 -- of every entry and of the default holds of what a table gives
 pub find-elim : {A : Type 0} (P : A → Type 0) (t : List (Entry A)) (a : ℕ) {d : A} → AllOf (λ (e : Entry A). P (e .gives)) t → P d → P (find t a d)
 find-elim P [] a h p = p

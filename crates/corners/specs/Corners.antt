@@ -11,7 +11,6 @@ use Rattle.dma.specs.Cycle.{alignment}
 use Rattle.hdma.specs.Engine.{DmaWorld, at, withChannels, hdmaAt}
 use Rattle.hdma.specs.Entry.{counted}
 use Rattle.hdma.specs.Line.{lineChannel}
-use Rattle.joypad.specs.declared.ControllerPort.{ControllerPort}
 use Rattle.machine.specs.Cycle.{machineAfter, cycled}
 use Rattle.machine.specs.PowerOn.{powerOnDma, powerOnMachine}
 use Rattle.machine.specs.declared.event.Event.the-variants.{Nothing}
@@ -26,10 +25,7 @@ use Rattle.registers.specs.declared.Io.{Io}
 use Rattle.registers.specs.declared.channel.DmaChannel.{DmaChannel}
 use Rattle.registers.specs.declared.wm_address.WmAddBank.{WmAddBank}
 use Rattle.registers.specs.declared.wm_address.WmAddBank.the-variants.{Bank7E, Bank7F}
-use Rattle.registers.specs.declared.wm_address.WmAddress.{WmAddress}
 use Rattle.state.specs.Hdma.{noHdma}
-use Rattle.state.specs.declared.Dma.{Dma}
-use Rattle.state.specs.declared.HdmaChannelState.{HdmaChannelState}
 use Rattle.state.specs.declared.Machine.{Machine}
 use Rattle.transfer.specs.Pattern.{offsetOf, bAddress}
 

@@ -1,15 +1,15 @@
 -- The entry's ranges and the machine's agree: an entry that was made of a machine and old bytes passes exactly where they do.
 use Prim.Native.Nat.{ℕ, _^_, _≤_, _<_}
-use mathlib.Core.Bool.{Bool, true, false, _&&_}
+use mathlib.Core.Bool.{true}
 use mathlib.Core.List.{[], _∷_}
-use mathlib.Core.Path.{_≡_, refl, sym, ap, _∙_}
+use mathlib.Core.Path.{_≡_, sym, ap, _∙_}
 use native.Mathlib.Omega.{arith}
 use borrow.Author.Tests.{le-leb}
 use lib.ListN.{getD}
 use mir.Val.{boolByte}
 use Rattle.common.proofs.AllLaws.{all-getD}
-use Rattle.decode.proofs.Accepted.{machine-ok, olds-ok}
-use Rattle.decode.proofs.Back.{machine-back, olds-back}
+use Rattle.decode.proofs.Accepted.{machine-ok}
+use Rattle.decode.proofs.Back.{machine-back}
 use Rattle.decode.proofs.Tested.{flag-small, bank-ok, state-small, auto-small, auto-tests, progress-tests, place-small, old-tests}
 use Rattle.fields.specs.Little.{le, joined}
 use Rattle.fields.proofs.Number.{number}

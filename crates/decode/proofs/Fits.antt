@@ -7,7 +7,7 @@ use lib.Dec.{eqb}
 use lib.ListN.{getD}
 use Rattle.common.specs.All.{AllOf}
 use Rattle.common.specs.Pick.{pick}
-use Rattle.decode.specs.Decode.{portAt, channelAt, channelsAt, ioAt, lineAt, linesAt, dmaAt, boardAt, machineAt, oldAt, oldsAt}
+use Rattle.decode.specs.Decode.{portAt, channelAt, channelsAt, ioAt, lineAt, dmaAt, boardAt, machineAt, oldAt, oldsAt}
 use Rattle.fields.specs.Little.{span, field}
 use Rattle.fields.proofs.Number.{field-below}
 use Rattle.registers.specs.Fit.{Byte, Word, Long, FitPort, FitAuto, FitChannel, FitIo}

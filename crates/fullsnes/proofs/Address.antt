@@ -1,14 +1,13 @@
 -- A1T steps by DMAP bits 3 and 4, up, down or not at all, and stays in its bank.
 use Prim.Native.Nat.{ℕ, _+_, _%_}
 use mathlib.Core.Bool.{Bool, true, false}
-use mathlib.Core.Path.{_≡_, refl, ap, _∙_}
+use mathlib.Core.Path.{_≡_, refl}
 use lib.ListN.{length}
 use Rattle.bus.specs.View.{channelOf, withChannel}
 use Rattle.bus.specs.declared.access.Core.{Core}
 use Rattle.common.specs.Pick.{pick}
 use Rattle.fullsnes.proofs.Views.{channel-put}
 use Rattle.registers.specs.Groups.{withDmaChannel-a1t}
-use Rattle.registers.specs.declared.channel.DmaChannel.{DmaChannel}
 use Rattle.transfer.specs.Bits.{flagOf}
 use Rattle.transfer.specs.Byte.{stepA1t}
 

@@ -1,15 +1,14 @@
 -- DAS counts the bytes of a general transfer, and 0 stands for 65,536: the byte that takes it to 0 is the last.
 use Prim.Native.Nat.{ℕ, zero, suc, _+_, _-_, _%_, _^_, _≤_, _<_}
-use mathlib.Core.Bool.{Bool, true, false}
 use mathlib.Core.Logic.{_≢_}
-use mathlib.Core.Path.{_≡_, refl, ap, _∙_}
+use mathlib.Core.Path.{_≡_, ap, _∙_}
 use native.Mathlib.Omega.{arith}
 use borrow.Author.Tests.{eqb-true, eqb-false}
 use lib.Dec.{eqb}
 use lib.ListN.{length}
 use Rattle.bus.specs.View.{channelOf, withChannel, withMdmaen}
 use Rattle.bus.specs.declared.access.Core.{Core}
-use Rattle.common.proofs.TableLaws.{pick-elim, pick-case}
+use Rattle.common.proofs.TableLaws.{pick-elim, pick-case, pick-map}
 use Rattle.common.specs.Pick.{pick}
 use Rattle.dma.specs.General.{afterByte}
 use Rattle.fullsnes.proofs.Views.{channel-put}
@@ -17,7 +16,6 @@ use Rattle.fullsnes.specs.Said.{bytesOf, dasAfter, Lasts}
 use Rattle.hdma.specs.declared.engine.DmaCore.{DmaCore}
 use Rattle.registers.specs.Groups.{withDmaChannel-das}
 use Rattle.state.specs.declared.Dma.{Dma}
-use Rattle.state.specs.declared.DmaProgress.{DmaProgress}
 use Rattle.state.specs.declared.DmaProgress.the-variants.{Nothing, At}
 use Rattle.transfer.specs.Bits.{down}
 
@@ -43,10 +41,6 @@ module _ (das : ℕ) (word : das < 65536) where
     last = left (bytesOf das) (omega arith) ∙ omega arith;
     going = λ i p h e. let l : dasAfter i das ≡ (bytesOf das - i) % 65536 = left i (omega arith) in omega (arith, some .1);
   }
-
-pick-map : {A B : Type 0} (f : A → B) (b : Bool) (x y : A) → f (pick b x y) ≡ pick b (f x) (f y)
-pick-map f true x y = refl
-pick-map f false x y = refl
 
 module _ (k : Core) (d : Dma) (ch u : ℕ) (whole : length (k .io .channels) ≡ 8) where
   abbrev next : ℕ

@@ -1,12 +1,12 @@
 -- Transfers and HDMA tables as the console's documents put them (Fullsnes, "SNES DMA and HDMA"; document 01, "From src/dma.rs"):
 -- patterns as a table, DAS as a count, A1T as an address in its bank, an entry of a table as a number of lines.
-use Prim.Native.Nat.{ℕ, zero, suc, _+_, _-_, _%_, _<_}
-use mathlib.Core.Bool.{Bool, true, false}
+use Prim.Native.Nat.{ℕ, zero, suc, _-_, _%_, _<_}
+use mathlib.Core.Bool.{Bool, true}
 use mathlib.Core.List.{List, [], _∷_}
 use mathlib.Core.Logic.{_≢_}
 use mathlib.Core.Path.{_≡_}
 use lib.Dec.{eqb, ltb}
-use lib.ListN.{length, getD}
+use lib.ListN.{getD}
 use Rattle.common.specs.Pick.{pick}
 use Rattle.hdma.specs.Entry.{counted}
 use Rattle.state.specs.declared.Dma.{Dma}

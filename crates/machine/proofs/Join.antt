@@ -10,19 +10,13 @@ use Rattle.bus.specs.declared.access.Core.{Core}
 use Rattle.dma.specs.Cycle.{Held, updated}
 use Rattle.hdma.specs.Engine.{at}
 use Rattle.registers.specs.declared.Io.{Io}
-use Rattle.signals.specs.AutoJoypad.{autoStep}
 use Rattle.signals.specs.Flags.{nmiLine}
 use Rattle.state.specs.declared.Board.{Board}
 use Rattle.state.specs.declared.Dma.{Dma}
 use Rattle.state.specs.declared.Machine.{Machine}
 use Rattle.machine.specs.Cycle.{armed, rising, ticked, Turned, cycled}
-use Rattle.machine.specs.Event.{pressed, evented, settled, timed, isFrame}
+use Rattle.machine.specs.Event.{settled, timed, isFrame}
 use Rattle.machine.specs.declared.event.Event.{Event}
-
-pub settled-by : (io : Io) (pad1 pad2 : ℕ) (event : Event) (bitcycles : ℕ) {a b c : Io} → a ≡ pressed io pad1 pad2 → b ≡ evented a event
-    → c ≡ autoStep b bitcycles → c ≡ settled io pad1 pad2 event bitcycles
-unfolding settled
-settled-by io pad1 pad2 event bitcycles p q r = cc
 
 pub cycle-by : (rom : List ℕ) (m : Machine) (l h : List ℕ) (event : Event) (line hit : Bool)
     {frame nmi edge : Bool} {io1 io2 : Io} {k : Core} {mask : ℕ} {d : Dma} {x : Held} {b : Board}

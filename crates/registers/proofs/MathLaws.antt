@@ -18,9 +18,6 @@ pub quotient : (m : Math) (d : ℕ) → 0 < d → Divided (m .wrdiv) d (divided 
 quotient m d h =
     rw (ne-eqb d 0 (λ (e : d ≡ 0). omega arith)) (record { together = div-add-mod' (m .wrdiv) d; less = mod-lt (m .wrdiv) h })
 
-pub by-zero : (m : Math) → (divided m 0 .rddiv ≡ 65535) × (divided m 0 .rdmpy ≡ m .wrdiv)
-by-zero m = (refl, refl)
-
 -- a word and its two bytes
 whole : (n : ℕ) → word (lo n) (hi n) ≡ n
 whole n = omega arith

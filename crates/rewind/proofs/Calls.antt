@@ -1,6 +1,6 @@
 -- The public calls on a sound desk: what an operation leaves and what a back step leaves, and the numbers that can come.
 use Prim.Native.Nat.{ℕ, suc, _-_, _/_, _%_, _≤_, _<_}
-use mathlib.Core.Bool.{Bool, true, false}
+use mathlib.Core.Bool.{true}
 use mathlib.Core.List.{List}
 use mathlib.Core.Path.{_≡_, refl, sym, ap, _∙_}
 use native.Mathlib.Omega.{arith}
@@ -12,7 +12,7 @@ use Rattle.bench.specs.Host.{padSet, plugSet, answerSet}
 use Rattle.bench.specs.Refusal.{addressOff, lentNumber, cycleNumber, portNumber, addressNumber, backNumber}
 use Rattle.bench.specs.Ring.{before, capacity, noting, noted}
 use Rattle.bus.specs.World.{readAt, writeAt}
-use Rattle.common.proofs.TableLaws.{pick-elim, pick-case}
+use Rattle.common.proofs.TableLaws.{pick-elim, pick-case, pick-map}
 use Rattle.common.specs.Pick.{pick}
 use Rattle.entry.specs.Entry.{decodeAt}
 use Rattle.entry.specs.declared.Entry.{Entry}
@@ -65,10 +65,6 @@ lent-sound len rom d pos whole h s =
       lt-leb (len / 256) (d .bench .slot) (s .slot-in),
       le-ltb (len / 256) (d .bench .kept) (s .kept-in),
     )
-
-pick-map : {A B : Type 0} (f : A → B) (b : Bool) (x y : A) → f (pick b x y) ≡ pick b (f x) (f y)
-pick-map f true x y = refl
-pick-map f false x y = refl
 
 -- the number and the desk of each answer
 abbrev cycle-reply : CycleOut → Reply

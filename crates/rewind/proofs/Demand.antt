@@ -1,7 +1,7 @@
 -- Demand 3: any run from fresh is as promised.
 use Prim.Native.Nat.{ℕ}
 use mathlib.Core.List.{List, []}
-use mathlib.Core.Path.{_≡_, refl}
+use mathlib.Core.Path.{refl}
 use native.Mathlib.Omega.{arith}
 use Rattle.bench.specs.Calls.{desk, emptyBench}
 use Rattle.machine.proofs.FitLaws.{power-on-fits}

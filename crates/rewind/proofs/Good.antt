@@ -1,13 +1,13 @@
 -- What every state of a run has: the widths of its types, the ranges of document 01, whole banks. Each operation keeps it, and the
 -- bytes that the operation overwrote, put back, give back both banks.
-use Prim.Native.Nat.{ℕ, _+_, _-_, _%_}
+use Prim.Native.Nat.{ℕ, _-_, _%_}
 use mathlib.Core.Bool.{Bool}
 use mathlib.Core.List.{List}
 use mathlib.Core.Path.{_≡_, refl, _∙_}
 use native.Mathlib.Omega.{arith}
 use lib.Bits.{bitAnd, and-high, and-le-r}
 use lib.Dec.{eqb}
-use lib.ListN.{length, set, length-set}
+use lib.ListN.{length, length-set}
 use Rattle.bench.specs.Calls.{eventOf}
 use Rattle.bench.specs.Host.{withIo, withPads, padSet, connect, plugSet, answerSet}
 use Rattle.bus.proofs.Adds.{Recorded, read-recorded, write-recorded}
@@ -22,14 +22,13 @@ use Rattle.machine.proofs.Adds.{cycle-recorded}
 use Rattle.machine.proofs.FitLaws.{machine-fits, cycle-fits}
 use Rattle.machine.proofs.Ranges.{undisturbed-ok, cycle-ok, cycle-olds}
 use Rattle.registers.proofs.FitGroups.{fit-pads, fit-ports}
-use Rattle.registers.specs.Fit.{Byte, Word, FitPort, FitPads, FitPorts, FitIo}
+use Rattle.registers.specs.Fit.{Byte, Word, FitPort, FitIo}
 use Rattle.registers.specs.declared.Io.{Io}
 use Rattle.rewind.specs.Rules.{Op, cycle, read, write, pad, plug, answer, Typed, State, world, accessed, changed, obeyed}
 use Rattle.state.specs.Fit.{FitMachine}
 use Rattle.state.specs.Ranges.{MachineOk}
 use Rattle.state.specs.declared.Machine.{Machine}
 use Rattle.wram.proofs.FitLaws.{no-olds-ok}
-use Rattle.wram.specs.Banks.{Banks}
 use Rattle.wram.specs.Olds.{noOlds, putBack, backFrom}
 use Rattle.wram.specs.Ranges.{FitBytes, OldsOk}
 use Rattle.wram.specs.declared.Olds.{Olds}

@@ -1,30 +1,29 @@
 -- Demand 3, proved: a run of operations and back steps, some refused, comes to what its survivors alone come to.
 use Prim.Native.Nat.{ℕ, zero, suc, _+_, _-_, _/_, _%_, _≤_, _<_, min}
-use mathlib.Core.Bool.{Bool, true, false}
+use mathlib.Core.Bool.{true, false}
 use mathlib.Core.List.{List, [], _∷_, _++_, map, reverse, reverse-cons}
-use mathlib.Core.Logic.{_≢_, _⊎_, inl, inr}
+use mathlib.Core.Logic.{_≢_, inl}
 use mathlib.Core.Path.{_≡_, refl, sym, ap, _∙_, subst}
 use native.Mathlib.Decide.{decLt}
 use native.Mathlib.Omega.{arith}
-use borrow.Author.Tests.{eqb-true, eqb-false, eq-eqb, ne-eqb}
+use borrow.Author.Tests.{eq-eqb, ne-eqb}
 use lib.Dec.{eqb}
 use lib.ListN.{length, take}
 use Rattle.bench.specs.Calls.{Desk, lentOf, recorded, restored}
 use Rattle.bench.specs.Ring.{after, before, capacity, noted}
-use Rattle.common.proofs.TableLaws.{pick-case}
 use Rattle.common.specs.All.{AllOf}
 use Rattle.common.specs.Pick.{pick}
 use Rattle.entry.proofs.Entries.{read-written, length-written, other-slots}
 use Rattle.entry.specs.Entry.{decode, decodeAt, written}
 use Rattle.entry.specs.declared.Entry.{Entry}
 use Rattle.ranges.proofs.MachineLaws.{passes}
-use Rattle.rewind.proofs.Calls.{numberOf, reply, SoundDesk, lent-sound, op-called, back-none, back-some, reply-number, op-sound, back-sound}
-use Rattle.rewind.proofs.Good.{Good, Lawful, lawful}
+use Rattle.rewind.proofs.Calls.{numberOf, reply, SoundDesk, lent-sound, op-called, back-none, back-some, op-sound, back-sound}
+use Rattle.rewind.proofs.Good.{Good, lawful}
 use Rattle.rewind.proofs.Slots.{before-lt, after-lt, before-after, Behind, behind-step, behind-ne, behind-cap}
-use Rattle.rewind.specs.History.{Deed, did, struck, nothing, rest, survive, survivorsFrom, survivors, Placed, Shelf, without, keep, keepFrom, keptOps}
+use Rattle.rewind.specs.History.{rest, survive, survivorsFrom, survivors, Placed, Shelf, without, keep, keepFrom, keptOps}
 use Rattle.rewind.specs.Promise.{Sound, Rewound}
 use Rattle.rewind.specs.Rules.{Op, Typed, State, Done, obeyed, obeyedAll}
-use Rattle.rewind.specs.Run.{Call, operation, back, TypedCall, Reply, called, made, deed, run, deeds, stateOf}
+use Rattle.rewind.specs.Run.{Call, operation, back, TypedCall, Reply, called, deed, run, deeds, stateOf}
 use Rattle.wram.specs.Olds.{putBack}
 use Rattle.wram.specs.Ranges.{FitBytes}
 

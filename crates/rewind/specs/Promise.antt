@@ -11,7 +11,7 @@ use Rattle.bench.specs.Ring.{capacity}
 use Rattle.common.specs.All.{AllOf}
 use Rattle.common.specs.Pick.{pick}
 use Rattle.registers.specs.Fit.{Word}
-use Rattle.rewind.specs.History.{Deed, survivors, keptOps}
+use Rattle.rewind.specs.History.{survivors, keptOps}
 use Rattle.rewind.specs.Rules.{Op, obeyedAll}
 use Rattle.rewind.specs.Run.{Call, operation, back, TypedCall, called, run, deeds, stateOf}
 use Rattle.wram.specs.Ranges.{FitBytes}

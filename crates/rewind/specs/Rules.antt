@@ -1,5 +1,5 @@
 -- The operations and what demand 2's rules make of each: machine and both banks, with no record beside them.
-use Prim.Native.Nat.{ℕ, _<_}
+use Prim.Native.Nat.{ℕ}
 use mathlib.Core.Bool.{Bool}
 use mathlib.Core.List.{List, [], _∷_}
 use Rattle.bench.specs.Calls.{eventOf}

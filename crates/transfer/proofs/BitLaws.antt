@@ -1,5 +1,5 @@
 -- What the lowest set bit means, and that a unit has at most four bytes.
-use Prim.Native.Nat.{ℕ, zero, suc, _+_, _*_, _/_, _%_, _^_, _≤_, _<_}
+use Prim.Native.Nat.{ℕ, zero, suc, _/_, _%_, _^_, _≤_, _<_}
 use mathlib.Core.Bool.{Bool, true, false}
 use mathlib.Core.Path.{_≡_, refl}
 use native.Mathlib.Nat.{div-div-eq-div-mul, mul-comm, pow-suc}
@@ -49,9 +49,6 @@ unit-len-le d =
     (pick-le (eqb (d % 8) 1) (omega arith)
     (pick-le (eqb (d % 8) 2) (omega arith)
     (pick-le (eqb (d % 8) 6) (omega arith) (omega arith))))
-
-pub unit-len-4 : (d : ℕ) {n : ℕ} → n ≡ unitLen d → n ≤ 4
-unit-len-4 d e = rw e (unit-len-le d)
 
 none-under : (d t n j : ℕ) → ((i : ℕ) → i < t → n / 2 / 2 ^ i % 2 ≡ 0) → d ≡ n % 2 → j < under d t → n / 2 ^ j % 2 ≡ 0
 none-under zero t n zero f e h = omega arith

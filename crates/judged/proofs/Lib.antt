@@ -5,3 +5,7 @@ pub mod Start
 pub mod Counts
 pub mod Entries
 pub mod Rejected
+pub mod Wrong
+pub mod WrongFiles
+pub mod Runs
+pub mod Backs

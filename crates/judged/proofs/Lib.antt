@@ -9,3 +9,4 @@ pub mod Wrong
 pub mod WrongFiles
 pub mod Runs
 pub mod Backs
+pub mod Accesses

@@ -10,7 +10,8 @@ use Rattle.bench.specs.Calls.{Desk, desk, lentOf, eventOf, CycleOut, cycleOut, 
 use Rattle.bench.specs.Refusal.{lentNumber}
 use Rattle.bench.specs.Ring.{bench}
 use Rattle.bench.specs.declared.operate.CycleAnswer.{CycleAnswer}
-use Rattle.bus.specs.Access.{pushAccess, opened}
+use Rattle.bus.specs.Access.{pushAccess, opened, ioWritten, registerRead}
+use Rattle.bus.specs.Route.{systemRoute, routeOf}
 use Rattle.bus.specs.View.{channelOf, withChannel, mdmaenOf, withMdmaen, hdmaenOf}
 use Rattle.bus.specs.World.{readAt, writeAt}
 use Rattle.dma.specs.Cycle.{startPending, dueOf, acted, actBy, updated}
@@ -27,6 +28,7 @@ use Rattle.state.specs.declared.DmaProgress.the-variants.{At}
 use Rattle.state.specs.declared.DmaState.the-variants.{Dma as General}
 use Rattle.state.specs.declared.Machine.{Machine}
 use Rattle.transfer.specs.Byte.{tripOf, moved, stepA1t, transferByte}
+use Rattle.transfer.specs.Pattern.{offsetOf}
 
 -- power-on registers, and channel 0 in the middle of a general transfer
 unfoldable pub moving : Machine
@@ -44,7 +46,7 @@ abbrev pub busy : List ℕ → List ℕ → List ℕ → Desk
 busy l h e = desk (bench moving 0 0 512) l h e
 
 two : (l h : List ℕ) → cycled [] moving l h (eventOf 0) false false .after .world .core .log .count ≡ 2
-unfolding moving powerOn cycled updated startPending dueOf acted actBy armed mdmaenOf hdmaenOf timed settled evented pressed opened autoStep dmaStep stepFrom transferByte moved tripOf stepA1t afterByte withChannel withMdmaen channelOf readAt writeAt pushAccess
+unfolding moving powerOn cycled updated startPending dueOf acted actBy armed mdmaenOf hdmaenOf timed settled evented pressed opened autoStep dmaStep stepFrom transferByte moved tripOf stepA1t afterByte withChannel withMdmaen channelOf readAt writeAt pushAccess ioWritten registerRead routeOf systemRoute offsetOf
 two l h = refl
 
 pub cycle-two-accesses : (l h e : List ℕ) → Sizes l h e → {r : CycleAnswer} {l′ h′ e′ : List ℕ} → cycleOut r l′ h′ e′ ≡ cycleCall [] (busy l h e) 0 false false

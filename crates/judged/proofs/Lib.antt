@@ -1,0 +1,12 @@
+pub mod Coincide
+pub mod Accepted
+pub mod Refused
+pub mod Start
+pub mod Counts
+pub mod Entries
+pub mod Rejected
+pub mod Wrong
+pub mod WrongFiles
+pub mod Runs
+pub mod Backs
+pub mod Accesses

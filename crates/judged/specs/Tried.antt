@@ -1,0 +1,19 @@
+-- What the cores to be rejected are tried on: a machine just given by fresh with a record of two slots, and any bytes of the right sizes.
+use Prim.Native.Nat.{ℕ, suc}
+use mathlib.Core.Bool.{Bool}
+use mathlib.Core.List.{List}
+use mathlib.Core.Path.{_≡_}
+use lib.ListN.{length}
+use Rattle.bench.specs.Calls.{Desk, desk, cycleCall, emptyBench}
+
+pub record Sizes (l h e : List ℕ) : Type 0 where
+  pub low : length l ≡ 65536
+  pub high : length h ≡ 65536
+  pub entries : length e ≡ 512
+
+abbrev pub start : List ℕ → List ℕ → List ℕ → Desk
+start l h e = desk (emptyBench 512 264) l h e
+
+-- cycle after cycle, each lent what the last left: what the contract lets any core leave, whatever it remembers of earlier calls
+abbrev pub Run : List ℕ → (ℕ → ℕ) → (ℕ → Bool) → (ℕ → Bool) → (ℕ → Desk) → Type 0
+Run rom event line timer d = (n : ℕ) → d (suc n) ≡ cycleCall rom (d n) (event n) (line n) (timer n) .desk

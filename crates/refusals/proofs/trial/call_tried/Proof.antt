@@ -1,0 +1,41 @@
+use native.Mathlib.Omega.{arith}
+use Prim.Native.Nat.{_-_}
+use Rattle.refusals.proofs.trial.call_tried.Statement.{statement}
+use Rattle.refusals.proofs.trial.call_tried.Tie as tie
+
+abbrev Inv-loop : tie.InvT-loop
+Inv-loop rom call i₀ i = Unit {0}
+
+abbrev μ-loop : tie.MeasureT-loop
+μ-loop rom call i₀ i = 62 - i
+
+loop-holds : tie.Need-loop-holds Inv-loop μ-loop
+loop-holds c = tt
+
+trial-requires : tie.Need-trial-requires Inv-loop μ-loop
+trial-requires c κs = tt
+
+add-i : tie.Need-add-i Inv-loop μ-loop
+add-i c = omega (arith, c .before .loop-test .taken)
+
+loop-less : tie.Need-loop-less Inv-loop μ-loop
+loop-less c = omega (arith, c .before .loop-test .taken)
+
+loop-again : tie.Need-loop-again Inv-loop μ-loop
+loop-again c = tt
+
+returns : tie.Need-returns Inv-loop μ-loop
+returns c = tt
+
+pub call-tried-spec : {M : Type 1} → statement M
+call-tried-spec =
+    tie.close
+    (tie.spec
+    Inv-loop
+    μ-loop
+    loop-holds
+    trial-requires
+    add-i
+    loop-less
+    loop-again
+    returns)

@@ -8,6 +8,7 @@ use std::collections::BTreeMap;
 use std::fmt;
 
 mod dma;
+pub mod listed;
 mod registers;
 mod script;
 
@@ -30,6 +31,11 @@ impl Group {
         if let Some(count) = self.members.get_mut(&member.to_string()) {
             *count += 1;
         }
+    }
+
+    /// How many members were never reached.
+    fn never(&self) -> usize {
+        self.members.values().filter(|count| **count == 0).count()
     }
 }
 
@@ -104,7 +110,7 @@ impl Coverage {
 
     /// How many members of all groups were never reached.
     pub fn never(&self) -> usize {
-        self.groups().map(|group| group.members.values().filter(|count| **count == 0).count()).sum()
+        self.groups().map(Group::never).sum()
     }
 }
 

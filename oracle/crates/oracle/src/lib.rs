@@ -1,5 +1,6 @@
 //! Document 01's calls, record, bench file and trace over the published Rust.
 
+pub mod any_image;
 pub mod bench;
 pub mod benchfile;
 pub mod calls;
@@ -9,6 +10,7 @@ pub mod generator;
 pub mod image;
 pub mod layout;
 pub mod lent;
+pub mod listed;
 pub mod random;
 pub mod ranges;
 pub mod record;

@@ -1,6 +1,6 @@
 //! The oracle's programs. Run without arguments for the list.
 
-use oracle::{coverage, generator, selfcheck, trace};
+use oracle::{coverage, generator, listed, selfcheck, trace};
 use std::fs;
 use std::io::{self, Read, Write};
 use std::path::Path;
@@ -12,7 +12,10 @@ const USAGE: &str = "usage:
   oracle make SEED COUNT DIR    write COUNT bench files and LIST (file name, kind) into DIR
   oracle one SEED INDEX         write one of these files to standard output
   oracle kinds                  list the kinds of bench file
-  oracle coverage SEED COUNT    count what COUNT bench files reach; fails if something named is never reached";
+  oracle coverage SEED COUNT    count what COUNT bench files reach; fails if something named is never reached
+  oracle calls SEED COUNT       write a list of single calls to standard output
+  oracle answers                print the answers to the list on standard input
+  oracle reached                count what the list on standard input reaches; fails as coverage does";
 
 fn main() -> ExitCode {
     let words: Vec<String> = std::env::args().skip(1).collect();
@@ -38,6 +41,9 @@ fn run(words: &[&str]) -> Result<(), String> {
         ["one", seed, index] => print(&generator::file(number(seed)?, number(index)?)),
         ["kinds"] => kinds(),
         ["coverage", seed, count] => show_coverage(seed, count),
+        ["calls", seed, count] => print(&listed::draw::list(number(seed)?, number(count)?)),
+        ["answers"] => print(listed::answer::answers(&read_input()?)?.as_bytes()),
+        ["reached"] => show_reached(),
         _ => Err(USAGE.into()),
     }
 }
@@ -82,8 +88,15 @@ fn kinds() -> Result<(), String> {
 fn show_coverage(seed: &str, count: &str) -> Result<(), String> {
     let coverage = coverage::coverage(number(seed)?, number(count)?);
     print(format!("seed {seed}, {count} files, {} calls\n\n{coverage}", coverage.calls).as_bytes())?;
-    match coverage.never() {
-        0 => Ok(()),
-        never => Err(format!("{never} members were never reached")),
-    }
+    all_reached(coverage.never())
+}
+
+fn show_reached() -> Result<(), String> {
+    let reached = coverage::listed::reached(&read_input()?)?;
+    print(format!("{} calls\n\n{reached}", reached.calls).as_bytes())?;
+    all_reached(reached.never())
+}
+
+fn all_reached(never: usize) -> Result<(), String> {
+    if never == 0 { Ok(()) } else { Err(format!("{never} members were never reached")) }
 }

@@ -2,7 +2,8 @@
 
 mod help;
 
-use help::{bench, call, random_image};
+use help::{bench, call};
+use oracle::any_image::any_image;
 use oracle::bench::RowAnswer;
 use oracle::random::Random;
 use oracle::ranges::image_in_ranges;
@@ -13,7 +14,7 @@ fn any_machine_runs() {
     let mut random = Random::new(5, 5);
     let mut bench = bench();
     for _ in 0..3_000 {
-        bench.machine.image = random_image(&mut random);
+        bench.machine.image = any_image(&mut random);
         for _ in 0..60 {
             let answer = call(&mut bench, any_call(&mut random));
             assert_eq!(answer.number, 0);
@@ -27,7 +28,7 @@ fn back_gives_back_any_machine() {
     let mut random = Random::new(6, 6);
     let mut bench = bench();
     for _ in 0..1_000 {
-        bench.machine.image = random_image(&mut random);
+        bench.machine.image = any_image(&mut random);
         let (before, kept) = (bench.machine.image, bench.banks.bytes().to_vec());
         for _ in 0..3 {
             assert_eq!(call(&mut bench, any_call(&mut random)).number, 0);

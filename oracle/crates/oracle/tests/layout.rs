@@ -2,7 +2,8 @@
 
 mod help;
 
-use help::{bench, lent, random_image};
+use help::{bench, lent};
+use oracle::any_image::any_image;
 use oracle::convert::{load, power_on, store};
 use oracle::image::{Entry, Image};
 use oracle::layout::Field;
@@ -84,7 +85,7 @@ fn there_and_back_through_the_core() {
     let mut bench = bench();
     let mut random = Random::new(1, 1);
     for _ in 0..2_000 {
-        let image: Image = random_image(&mut random);
+        let image: Image = any_image(&mut random);
         assert!(image_in_ranges(&image));
         let core = load(&image, &mut lent(&mut bench));
         assert_eq!(store(&core, image.bit_cycles), image);

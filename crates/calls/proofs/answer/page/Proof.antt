@@ -1,0 +1,51 @@
+use lib.ListN.{length}
+use native.Mathlib.Omega.{arith}
+use mathlib.Core.Path.{_≡_, refl, _∙_}
+use Prim.Native.Nat.{_-_}
+use Rattle.calls.proofs.answer.page.Statement.{statement}
+use Rattle.calls.proofs.answer.page.Tie as tie
+
+abbrev Inv-loop : tie.InvT-loop
+Inv-loop line₀ at bytes end₀ i₀ line end i = length line ≡ length line₀
+
+abbrev μ-loop : tie.MeasureT-loop
+μ-loop line₀ at bytes end₀ i₀ line end i = length bytes - i
+
+loop-holds : tie.Need-loop-holds Inv-loop μ-loop
+loop-holds c = refl
+
+shared-slice-read-hex : tie.Need-shared-slice-read-hex Inv-loop μ-loop
+shared-slice-read-hex c = (c .before .before .loop-test .taken)
+
+hex-requires : tie.Need-hex-requires Inv-loop μ-loop
+hex-requires c κs = tt
+
+add-i : tie.Need-add-i Inv-loop μ-loop
+add-i c = omega (arith, (c .before .before .before .before .before .loop-test .taken))
+
+loop-less : tie.Need-loop-less Inv-loop μ-loop
+loop-less c = omega (arith, (c .before .before .before .before .before .loop-test .taken))
+
+loop-again : tie.Need-loop-again Inv-loop μ-loop
+loop-again c = (c .before .before .hex .kept .0) ∙ (c .before .before .before .before .before .before .loop .inv)
+
+same-length : tie.Need-same-length Inv-loop μ-loop
+same-length c = (c .before .loop .inv)
+
+returns : tie.Need-returns Inv-loop μ-loop
+returns c = tt
+
+pub page-spec : {M : Type 1} → statement M
+page-spec =
+    tie.close
+    (tie.spec
+    Inv-loop
+    μ-loop
+    loop-holds
+    shared-slice-read-hex
+    hex-requires
+    add-i
+    loop-less
+    loop-again
+    same-length
+    returns)

@@ -1,0 +1,75 @@
+//! What all draws share: a sound call on a machine drawn within the ranges, and help to change it.
+
+use super::{Call, Listed};
+use crate::any_image::any_image;
+use crate::image::{Image, Old, Place};
+use crate::lent::BANK_SIZE;
+use crate::random::Random;
+use crate::row::Row;
+
+/// ROM lengths that a sound call may be lent.
+const ROMS: [u32; 6] = [0, 1, 0x7FFF, 0x8000, 0x18001, 4_194_304];
+/// Bytes of note in an HDMA table, for fills.
+const COUNTERS: [u8; 6] = [0, 1, 2, 0x80, 0x81, 0xFF];
+
+pub struct Lot {
+    pub random: Random,
+}
+
+impl Lot {
+    /// Any machine within the ranges with everything lent as it should be; the call is a cycle without event.
+    pub fn machine(&mut self) -> Listed {
+        let image = any_image(&mut self.random);
+        self.around(image)
+    }
+
+    /// What is lent around an image.
+    pub fn around(&mut self, image: Image) -> Listed {
+        let capacity = self.random.between(1, 4);
+        let fill = std::array::from_fn(|_| self.table_byte());
+        Listed {
+            image,
+            next_slot: self.random.between(0, capacity - 1) as u32,
+            kept: self.random.between(0, capacity) as u32,
+            record_length: 256 * capacity as u32,
+            lent_record: 256 * capacity as u32,
+            lent_low: BANK_SIZE as u32,
+            lent_high: BANK_SIZE as u32,
+            lent_rom: self.random.pick(&ROMS),
+            kind: 1,
+            first: 0,
+            word: 0,
+            last: 0,
+            fill_length: self.random.between(1, 16) as u8,
+            fill,
+            patches: [Old { place: Place(0), byte: fill[0] }; 8],
+        }
+    }
+
+    pub fn cycle(&mut self) -> Row {
+        Row::Cycles { count: 1, event: self.random.byte() % 5, flags: self.random.byte() % 4 }
+    }
+
+    pub fn system_bank(&mut self) -> u8 {
+        self.random.byte() & 0xBF
+    }
+
+    fn table_byte(&mut self) -> u8 {
+        if self.random.once_in(2) { self.random.pick(&COUNTERS) } else { self.random.byte() }
+    }
+}
+
+impl Listed {
+    pub fn call(self, row: Row) -> Call {
+        Call { listed: self.with_row(row), entry: None }
+    }
+
+    /// Lays bytes at places of work RAM; what is not used repeats the last of them.
+    pub fn patch(&mut self, bytes: &[(u32, u8)]) {
+        for (index, patch) in self.patches.iter_mut().enumerate() {
+            if let Some((place, byte)) = bytes.get(index).or(bytes.last()) {
+                *patch = Old { place: Place(*place), byte: *byte };
+            }
+        }
+    }
+}

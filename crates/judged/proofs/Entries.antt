@@ -1,45 +1,47 @@
 -- Invented old-byte counts are ruled out: the entry that an operation writes reads back as the machine given and the bytes overwritten.
 use Prim.Native.Nat.{ℕ, _<_}
-use mathlib.Core.Bool.{Bool, true, false}
+use mathlib.Core.Bool.{true, false}
 use mathlib.Core.List.{List, []}
 use mathlib.Core.Path.{_≡_, refl, ap, _∙_}
 use native.Mathlib.Omega.{arith}
-use lib.ListN.{length, getD}
-use Rattle.bench.specs.Calls.{Desk, CycleOut, WriteOut, writeOut, writeCall, worldOf, PlainOut, plainOut, padCall}
+use lib.ListN.{getD}
+use Rattle.bench.specs.Calls.{Desk, writeOut, writeCall, worldOf, plainOut, padCall}
 use Rattle.bench.specs.Host.{withIo, padSet}
-use Rattle.bench.specs.Ring.{Noted, noted}
+use Rattle.bench.specs.Ring.{noted}
 use Rattle.bench.specs.declared.operate.Answer.{Answer}
 use Rattle.bench.specs.declared.operate.WriteAnswer.{WriteAnswer}
 use Rattle.bus.specs.Access.{opened}
-use Rattle.bus.specs.Route.{routeOf, systemRoute, placeOf}
+use Rattle.bus.specs.Route.{routeOf, placeOf}
 use Rattle.bus.specs.World.{writeAt}
+use Rattle.common.proofs.FillLaws.{filled-grows, filled-none}
 use Rattle.entry.proofs.Entries.{read-written}
 use Rattle.entry.specs.Entry.{decodeAt}
 use Rattle.entry.specs.Slot.{capacity}
 use Rattle.entry.specs.declared.Entry.{Entry}
 use Rattle.image.specs.Encode.{entrySize}
-use Rattle.image.specs.Fit.{FitOlds}
 use Rattle.judged.proofs.Accepted.{write-accepted, pad-accepted}
-use Rattle.judged.proofs.Start.{start-ok, start-fits, start-lent, none-fit, none-ok}
+use Rattle.judged.proofs.Start.{start-ok, start-fits, start-lent}
 use Rattle.judged.specs.Tried.{Sizes, start}
 use Rattle.machine.specs.PowerOn.{powerOnMachine}
-use Rattle.ranges.proofs.Log.{push-fits, push-ok}
 use Rattle.ranges.specs.Machine.{machineOk}
-use Rattle.ranges.specs.Olds.{oldsOk}
-use Rattle.registers.specs.PowerOn.{powerOn}
-use Rattle.state.specs.Widths.{Fit}
+use Rattle.state.specs.Fit.{FitMachine}
 use Rattle.state.specs.declared.Machine.{Machine}
+use Rattle.wram.proofs.FitLaws.{no-olds-ok}
+use Rattle.wram.proofs.KeepLaws.{keep-grows}
+use Rattle.wram.specs.Banks.{banks}
 use Rattle.wram.specs.Olds.{noOlds, pushOld, keptAt}
+use Rattle.wram.specs.Ranges.{OldsOk}
 use Rattle.wram.specs.declared.Old.{Old}
 use Rattle.wram.specs.declared.Olds.{Olds}
+use Rattle.wram.specs.declared.Place.the-variants.{Bank7E}
 
-module _ (d : Desk) (olds : Olds) (f : Fit (d .bench .machine)) (g : FitOlds olds) (p : machineOk (d .bench .machine) ≡ true) (q : oldsOk olds ≡ true)
+module _ (d : Desk) (olds : Olds) (f : FitMachine (d .bench .machine)) (p : machineOk (d .bench .machine) ≡ true) (g : OldsOk olds)
     (s : d .bench .slot < capacity entrySize (d .entries)) where
   -- the entry at the slot that was next
   pub entry-tied : (next : Machine) {e : List ℕ} → e ≡ noted (d .bench) (d .entries) next olds .entries
       → decodeAt e (d .bench .slot) ≡ record { ok = true; machine = d .bench .machine; olds = olds }
   unfolding noted
-  entry-tied next k = ap (λ (x : List ℕ). decodeAt x (d .bench .slot)) k ∙ read-written (d .bench .machine) olds f g p q (d .entries) (d .bench .slot) s
+  entry-tied next k = ap (λ (x : List ℕ). decodeAt x (d .bench .slot)) k ∙ read-written (d .bench .machine) olds f p g (d .entries) (d .bench .slot) s
 
 module _ (l h e : List ℕ) (s : Sizes l h e) where
   room : 0 < capacity entrySize e
@@ -51,12 +53,16 @@ module _ (l h e : List ℕ) (s : Sizes l h e) where
   pad-olds word k =
       let d = start l h e in
       let x = k ∙ pad-accepted [] d (start-lent s [] (omega arith)) 0 word (omega arith) in
-      entry-tied d noOlds start-fits none-fit start-ok none-ok room (padSet (powerOnMachine 264) 0 word) (λ i. x i .desk .entries)
+      entry-tied d noOlds start-fits start-ok no-olds-ok room (padSet (powerOnMachine 264) 0 word) (λ i. x i .desk .entries)
 
   -- a write to work RAM overwrites the one byte that stood there
   module _ (small : getD l 0 0 < 256) where
     abbrev old : Old
     old = record { high = false; addr = 0; byte = getD l 0 0 }
+
+    old-ok : OldsOk (pushOld noOlds old)
+    unfolding pushOld keptAt
+    old-ok = record { filled = filled-grows (filled-none 4) (keep-grows noOlds (banks l h) (Bank7E 0)) (omega arith); fits = omega arith }
 
     at-7e : (byte : ℕ) → writeAt (worldOf (start l h e)) 0x7E 0 byte .core .olds ≡ pushOld noOlds old
     unfolding writeAt opened keptAt routeOf placeOf
@@ -68,10 +74,8 @@ module _ (l h e : List ℕ) (s : Sizes l h e) where
         let d = start l h e in
         let x = k ∙ write-accepted [] d (start-lent s [] (omega arith)) 0x7E 0 byte in
         let next = withIo (powerOnMachine 264) (writeAt (worldOf d) 0x7E 0 byte .core .io) in
-        let fit = push-fits noOlds old none-fit (omega arith) in
-        let ok = push-ok noOlds old (omega arith) none-ok in
         let by = ap (λ (o : Olds). noted (d .bench) (d .entries) next o .entries) (at-7e byte) in
-        entry-tied d (pushOld noOlds old) start-fits fit start-ok ok room next ((λ i. x i .desk .entries) ∙ by)
+        entry-tied d (pushOld noOlds old) start-fits start-ok old-ok room next ((λ i. x i .desk .entries) ∙ by)
 
     one-old : pushOld noOlds old .count ≡ 1
     unfolding pushOld

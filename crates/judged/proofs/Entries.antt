@@ -1,17 +1,17 @@
 -- Invented old-byte counts are ruled out: the entry that an operation writes reads back as the machine given and the bytes overwritten.
 use Prim.Native.Nat.{ℕ, _<_}
-use mathlib.Core.Bool.{Bool, true, false}
+use mathlib.Core.Bool.{true, false}
 use mathlib.Core.List.{List, []}
 use mathlib.Core.Path.{_≡_, refl, ap, _∙_}
 use native.Mathlib.Omega.{arith}
-use lib.ListN.{length, getD}
-use Rattle.bench.specs.Calls.{Desk, CycleOut, WriteOut, writeOut, writeCall, worldOf, PlainOut, plainOut, padCall}
+use lib.ListN.{getD}
+use Rattle.bench.specs.Calls.{Desk, writeOut, writeCall, worldOf, plainOut, padCall}
 use Rattle.bench.specs.Host.{withIo, padSet}
-use Rattle.bench.specs.Ring.{Noted, noted}
+use Rattle.bench.specs.Ring.{noted}
 use Rattle.bench.specs.declared.operate.Answer.{Answer}
 use Rattle.bench.specs.declared.operate.WriteAnswer.{WriteAnswer}
 use Rattle.bus.specs.Access.{opened}
-use Rattle.bus.specs.Route.{routeOf, systemRoute, placeOf}
+use Rattle.bus.specs.Route.{routeOf, placeOf}
 use Rattle.bus.specs.World.{writeAt}
 use Rattle.entry.proofs.Entries.{read-written}
 use Rattle.entry.specs.Entry.{decodeAt}
@@ -26,7 +26,6 @@ use Rattle.machine.specs.PowerOn.{powerOnMachine}
 use Rattle.ranges.proofs.Log.{push-fits, push-ok}
 use Rattle.ranges.specs.Machine.{machineOk}
 use Rattle.ranges.specs.Olds.{oldsOk}
-use Rattle.registers.specs.PowerOn.{powerOn}
 use Rattle.state.specs.Widths.{Fit}
 use Rattle.state.specs.declared.Machine.{Machine}
 use Rattle.wram.specs.Olds.{noOlds, pushOld, keptAt}

@@ -3,11 +3,11 @@ use Prim.Native.Nat.{ℕ, _≤_, _<_}
 use mathlib.Core.Bool.{Bool, true}
 use mathlib.Core.List.{List}
 use mathlib.Core.Logic.{_≢_}
-use mathlib.Core.Path.{_≡_, refl}
+use mathlib.Core.Path.{_≡_}
 use native.Mathlib.Omega.{arith}
 use borrow.Author.Tests.{le-ltb, ne-eqb}
 use lib.ListN.{length}
-use Rattle.bench.specs.Calls.{Desk, lentOf, eventOf, CycleOut, cycleDone, cycleCall, ReadOut, readDone, readCall, costAt, worldOf, bused, WriteOut, writeCall, PlainOut, recorded, padCall, plugCall, answerCall, hosted, restored, backCall}
+use Rattle.bench.specs.Calls.{Desk, lentOf, eventOf, cycleDone, cycleCall, readDone, readCall, costAt, worldOf, bused, writeCall, PlainOut, recorded, padCall, plugCall, answerCall, hosted, restored, backCall}
 use Rattle.bench.specs.Host.{padSet, plugSet, answerSet}
 use Rattle.bench.specs.Refusal.{cycleNumber, portNumber, addressNumber, backNumber}
 use Rattle.bench.specs.Ring.{before, capacity}

@@ -2,10 +2,9 @@
 use Prim.Native.Nat.{ℕ}
 use mathlib.Core.Bool.{true, false}
 use mathlib.Core.List.{List, []}
-use mathlib.Core.Logic.{_≢_}
 use mathlib.Core.Path.{_≡_, refl, ap, _∙_}
 use native.Mathlib.Omega.{arith}
-use lib.ListN.{length, replicate}
+use lib.ListN.{replicate}
 use Rattle.bench.specs.Calls.{Desk, desk, lentOf, eventOf, CycleOut, cycleOut, cycleCall}
 use Rattle.bench.specs.Refusal.{lentNumber}
 use Rattle.bench.specs.Ring.{bench}

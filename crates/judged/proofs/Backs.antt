@@ -1,19 +1,17 @@
 -- Back on an operation just done: refusing it, or leaving what the operation did, are wrong answers that the contract rules out.
-use Prim.Native.Nat.{ℕ, _<_}
+use Prim.Native.Nat.{ℕ}
 use mathlib.Core.Bool.{true}
 use mathlib.Core.List.{List, []}
 use mathlib.Core.Logic.{_≢_}
 use mathlib.Core.Path.{_≡_, refl, sym, ap, _∙_}
 use native.Mathlib.Omega.{arith}
-use lib.ListN.{length}
-use Rattle.bench.specs.Calls.{Desk, desk, lentOf, PlainOut, plainOut, padCall, restored, backCall}
+use Rattle.bench.specs.Calls.{Desk, desk, lentOf, PlainOut, plainOut, padCall, backCall}
 use Rattle.bench.specs.Host.{padSet}
 use Rattle.bench.specs.Refusal.{lentNumber}
 use Rattle.bench.specs.Ring.{noted}
 use Rattle.bench.specs.declared.operate.Answer.{Answer}
 use Rattle.entry.proofs.Entries.{length-written}
 use Rattle.entry.specs.Entry.{decodeAt}
-use Rattle.entry.specs.declared.Entry.{Entry}
 use Rattle.judged.proofs.Accepted.{hostDone, back-accepted}
 use Rattle.judged.proofs.Entries.{pad-olds}
 use Rattle.judged.proofs.Rejected.{start-pad}

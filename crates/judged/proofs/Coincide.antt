@@ -2,9 +2,9 @@
 use Prim.Native.Nat.{ℕ}
 use mathlib.Core.Bool.{Bool}
 use mathlib.Core.List.{List}
-use mathlib.Core.Path.{_≡_, sym, ap, _∙_}
+use mathlib.Core.Path.{_≡_, sym, _∙_}
 use lib.ListN.{length}
-use Rattle.bench.specs.Calls.{Desk, desk, cycleOut, cycleCall, readOut, readCall, writeOut, writeCall, plainOut, padCall, plugCall, answerCall, backCall, freshCall}
+use Rattle.bench.specs.Calls.{desk, cycleOut, cycleCall, readOut, readCall, writeOut, writeCall, plainOut, padCall, plugCall, answerCall, backCall, freshCall}
 use Rattle.bench.specs.Page.{pageCall}
 use Rattle.bench.specs.Refusal.{lookNumber}
 use Rattle.bench.specs.declared.Bench.{Bench}

@@ -4,8 +4,7 @@ use Prim.Native.Nat.{ℕ, _+_, _-_, _≤_, _<_, min}
 use mathlib.Core.Bool.{Bool, true}
 use mathlib.Core.List.{List}
 use mathlib.Core.Logic.{_≢_}
-use mathlib.Core.Path.{_≡_, refl, ap, _∙_}
-use native.Mathlib.Omega.{arith}
+use mathlib.Core.Path.{_≡_, ap, _∙_}
 use lib.ListN.{length}
 use Rattle.bench.specs.Calls.{Desk, lentOf, eventOf, CycleOut, cycleOut, cycleDone, cycleCall, ReadOut, readOut, readCall, WriteOut, writeOut, writeCall, PlainOut, plainOut, padCall, plugCall, answerCall, backCall}
 use Rattle.bench.specs.Ring.{after, before, capacity, noted}
@@ -14,7 +13,6 @@ use Rattle.bench.specs.declared.operate.Answer.{Answer}
 use Rattle.bench.specs.declared.operate.CycleAnswer.{CycleAnswer}
 use Rattle.bench.specs.declared.operate.ReadAnswer.{ReadAnswer}
 use Rattle.bench.specs.declared.operate.WriteAnswer.{WriteAnswer}
-use Rattle.bus.proofs.Adds.{Recorded}
 use Rattle.bus.specs.Access.{noAccess}
 use Rattle.bus.specs.declared.access.Log.{Log}
 use Rattle.common.specs.Fill.{Filled}

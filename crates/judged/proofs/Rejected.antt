@@ -4,9 +4,9 @@ use Prim.Native.Nat.{ℕ}
 use mathlib.Core.Bool.{Bool, true, false}
 use mathlib.Core.List.{List, []}
 use mathlib.Core.Logic.{_≢_}
-use mathlib.Core.Path.{_≡_, refl, sym, ap, _∙_}
+use mathlib.Core.Path.{_≡_, sym, ap, _∙_}
 use native.Mathlib.Omega.{arith}
-use lib.ListN.{length, getD, set}
+use lib.ListN.{getD, set}
 use lib.Seq.{getD-set-same}
 use Rattle.bench.specs.Calls.{lentOf, eventOf, CycleOut, cycleOut, cycleDone, cycleCall, costAt, ReadOut, readOut, readDone, readCall, worldOf, bused, WriteOut, writeOut, writeCall, PlainOut, plainOut, padCall, plugCall, answerCall}
 use Rattle.bench.specs.Host.{padSet, plugSet, answerSet}

@@ -1,8 +1,8 @@
 -- A core that works on the first call and acts the rest is ruled out: in any run of cycles every single call moves the clock by one,
 -- whatever events it is given, so no call after the first can answer without doing the work.
 use Prim.Native.Nat.{ℕ, zero, suc, _+_, _/_, _≤_, _<_, _^_}
-use mathlib.Core.Bool.{Bool, true, false}
-use mathlib.Core.List.{List, [], _∷_}
+use mathlib.Core.Bool.{Bool, true}
+use mathlib.Core.List.{List}
 use mathlib.Core.Logic.{_≢_}
 use mathlib.Core.Path.{_≡_, refl, ap, subst⁻¹, _∙_}
 use native.Mathlib.Omega.{arith}
@@ -20,7 +20,6 @@ use Rattle.machine.proofs.Adds.{cycle-recorded}
 use Rattle.machine.proofs.FitLaws.{power-on-fits, cycle-fits, machine-fits}
 use Rattle.machine.proofs.Ranges.{power-on-ok, cycle-ok}
 use Rattle.machine.specs.Cycle.{Turned, cycled}
-use Rattle.machine.specs.PowerOn.{powerOnMachine}
 use Rattle.ranges.proofs.Tests.{whole}
 use Rattle.ranges.specs.Machine.{autoOk, progressOk, machineTests, machineOk}
 use Rattle.registers.specs.Ranges.{AutoOk}

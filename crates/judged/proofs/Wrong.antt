@@ -1,17 +1,16 @@
 -- Two wrong answers for each public call of the bench that its contract rules out (more stand in Rejected and Counts).
-use Prim.Native.Nat.{ℕ, _<_}
-use mathlib.Core.Bool.{Bool, true, false}
+use Prim.Native.Nat.{ℕ}
+use mathlib.Core.Bool.{Bool, false}
 use mathlib.Core.List.{List, [], _∷_}
 use mathlib.Core.Logic.{_≢_}
 use mathlib.Core.Path.{_≡_, refl, sym, ap, _∙_}
 use native.Mathlib.Omega.{arith}
-use lib.Dec.{eqb}
-use lib.ListN.{length, getD, take, drop, length-drop}
+use lib.ListN.{length, getD}
 use lib.Seq.{length-take-le}
-use Rattle.bench.specs.Calls.{Desk, desk, lentOf, CycleOut, cycleOut, cycleCall, ReadOut, readOut, readCall, WriteOut, writeOut, writeCall, PlainOut, plainOut, hosted, padCall, plugCall, answerCall, backCall, freshCall}
+use Rattle.bench.specs.Calls.{desk, lentOf, CycleOut, cycleOut, cycleCall, ReadOut, readOut, readCall, WriteOut, writeOut, writeCall, PlainOut, plainOut, hosted, padCall, plugCall, answerCall, backCall, freshCall}
 use Rattle.bench.specs.Host.{padSet, plugSet, answerSet}
 use Rattle.bench.specs.Page.{pageCall}
-use Rattle.bench.specs.Refusal.{lentNumber, cycleNumber, portNumber, addressNumber, backNumber, freshNumber, lookNumber}
+use Rattle.bench.specs.Refusal.{cycleNumber, portNumber, addressNumber, backNumber, freshNumber, lookNumber}
 use Rattle.bench.specs.Ring.{noted}
 use Rattle.bench.specs.declared.operate.Answer.{Answer}
 use Rattle.bench.specs.declared.operate.CycleAnswer.{CycleAnswer}

@@ -1,0 +1,104 @@
+-- The steps of each function, joined into its definition, and the loop over the rows.
+use Prim.Native.Nat.{ℕ, _+_, _/_, _≤_, _<_}
+use mathlib.Core.Bool.{Bool, true, false}
+use mathlib.Core.List.{List}
+use mathlib.Core.Path.{_≡_, refl, _∙_, ap}
+use native.Mathlib.Numerals.{add-one}
+use native.Mathlib.Omega.{arith}
+use lib.Dec.{leb, eqb}
+use lib.ListN.{length}
+use Rattle.bench.specs.Calls.{Desk}
+use Rattle.bench.specs.declared.operate.Answer.{Answer}
+use Rattle.bench.specs.Calls.{freshCall}
+use Rattle.benchfile.specs.Bytes.{byteAt, twoAt}
+use Rattle.benchfile.specs.File.{fileCheck, sectionOf}
+use Rattle.benchfile.specs.Row.{rowOf, rowBytes}
+use Rattle.benchfile.specs.declared.row.Row.{Row}
+use Rattle.script.specs.Run.{Running}
+use Rattle.script.specs.Row.{rowRun}
+use Rattle.lines.specs.Text.{Text, text, appended}
+use Rattle.lines.specs.Line.{lineText, refusedText}
+use Rattle.lines.specs.Fill.{filled}
+use Rattle.printout.specs.Row.{Shown, rowShown}
+use Rattle.printout.specs.Rows.{Standing, after, stepped, steps}
+use Rattle.printout.specs.Start.{Starting, startNumber, madeFor, refusalOf, startRun}
+
+pub row-joined : (rom row : List ℕ) (number : ℕ) (d : Desk) (t : Text) {says : Row} {kind : ℕ} {r : Running} {u : Text} → says ≡ rowOf row → kind ≡ byteAt row 0
+    → r ≡ rowRun rom says d → u ≡ appended t (lineText number kind (r .number) (r .a) (r .b)) → _≡_ {A = Shown} (record { ran = r; text = u }) (rowShown rom row number d t)
+unfolding rowShown
+row-joined rom row number d t p q e f = cc
+
+module _ (rom script : List ℕ) (s : Standing) where
+  pub step-none : leb (length script / 8) (s .next) ≡ true → s ≡ stepped rom script s
+  unfolding stepped
+  step-none a = cc
+
+  module _ (a : leb (length script / 8) (s .next) ≡ false) where
+    pub step-refused : eqb (s .number) 0 ≡ false → s ≡ stepped rom script s
+    unfolding stepped
+    step-refused b = cc
+
+    module _ (b : eqb (s .number) 0 ≡ true) {t : Bool} (c : t ≡ leb (s .text .used + 105) (length (s .text .bytes))) where
+      pub step-full : t ≡ false → s ≡ stepped rom script s
+      unfolding stepped
+      step-full e = cc
+
+      pub step-goes : t ≡ true → {row : List ℕ} {o : Shown} → row ≡ rowBytes script (s .next) → o ≡ rowShown rom row (s .next + 1) (s .desk) (s .text)
+          → after s o ≡ stepped rom script s
+      unfolding stepped
+      step-goes e p q = cc
+
+-- the lent slices keep their lengths
+pub record SameLengths (s t : Standing) : Type 0 where
+  pub low : length (t .desk .ram .low) ≡ length (s .desk .ram .low)
+  pub high : length (t .desk .ram .high) ≡ length (s .desk .ram .high)
+  pub entries : length (t .desk .entries) ≡ length (s .desk .entries)
+  pub out : length (t .text .bytes) ≡ length (s .text .bytes)
+
+-- i of n steps are made
+pub record Going (rom script : List ℕ) (n : ℕ) (s₀ s : Standing) (i : ℕ) : Type 0 where
+  pub under : i ≤ n
+  pub is : s ≡ steps rom script i s₀
+  pub lengths : SameLengths s₀ s
+
+module _ (rom script : List ℕ) (n : ℕ) (s₀ : Standing) where
+  pub going-start : Going rom script n s₀ s₀ 0
+  unfolding steps
+  going-start = record { under = omega arith; is = refl; lengths = record { low = refl; high = refl; entries = refl; out = refl } }
+
+  pub going-on : {s t : Standing} {i : ℕ} → Going rom script n s₀ s i → i < n → t ≡ stepped rom script s → SameLengths s t → Going rom script n s₀ t (i + 1)
+  unfolding steps
+  going-on {s} {t} {i} g h e l = record {
+    under = omega arith;
+    is = rw (add-one i) (e ∙ ap (stepped rom script) (g .is));
+    lengths = record {
+      low = l .low ∙ g .lengths .low;
+      high = l .high ∙ g .lengths .high;
+      entries = l .entries ∙ g .lengths .entries;
+      out = l .out ∙ g .lengths .out;
+    };
+  }
+
+  pub going-end : {s : Standing} {i : ℕ} → Going rom script n s₀ s i → n ≤ i → s ≡ steps rom script n s₀
+  going-end {s} {i} g h = let e : i ≡ n = omega (arith, g .under) in g .is ∙ ap (λ (k : ℕ). steps rom script k s₀) e
+
+-- a file before its first row
+module _ (f low high out : List ℕ) {settings : List ℕ} {bits broken n : ℕ} {made : Answer} (p : settings ≡ sectionOf f 0) (q : bits ≡ twoAt settings 0)
+    (m : made ≡ freshCall 65536 bits) (r : broken ≡ fileCheck f) (s : n ≡ startNumber broken (made .number)) where
+  made-is : made ≡ madeFor f
+  unfolding madeFor
+  made-is = cc
+
+  number-is : n ≡ refusalOf f
+  unfolding refusalOf
+  number-is = let e = made-is in cc
+
+  pub start-refused : {u : Text} → eqb n 0 ≡ false → u ≡ appended (text out 0) (lineText 0 0 n 0 0)
+      → _≡_ {A = Starting} (record { number = n; bench = made .bench; low = low; high = high; text = u }) (startRun f low high out)
+  unfolding startRun refusedText
+  start-refused z e = let a = made-is in let b = number-is in cc
+
+  pub start-goes : {fill low′ high′ : List ℕ} → eqb n 0 ≡ true → fill ≡ sectionOf f 1 → low′ ≡ filled low fill → high′ ≡ filled high fill
+      → _≡_ {A = Starting} (record { number = 0; bench = made .bench; low = low′; high = high′; text = text out 0 }) (startRun f low high out)
+  unfolding startRun
+  start-goes z e g h = let a = made-is in let b = number-is in cc

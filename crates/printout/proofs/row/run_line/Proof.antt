@@ -1,0 +1,44 @@
+use Rattle.printout.proofs.Join.{row-joined}
+use Rattle.printout.proofs.row.run_line.Statement.{statement}
+use Rattle.printout.proofs.row.run_line.Tie as tie
+
+row-of-requires : tie.Need-row-of-requires
+row-of-requires c κs = tt
+
+byte-requires : tie.Need-byte-requires
+byte-requires c κs = tt
+
+run-row-requires : tie.Need-run-row-requires
+run-row-requires c κs = tt
+
+append-line-requires : tie.Need-append-line-requires
+append-line-requires c κs = tt
+
+same-length : tie.Need-same-length
+same-length c = c .before .before .before .before .before .before .before .before .before .before .run-row .kept .1 .0
+
+same-length-2 : tie.Need-same-length-2
+same-length-2 c = c .before .before .before .before .before .before .before .before .before .before .run-row .kept .1 .1 .0
+
+same-length-3 : tie.Need-same-length-3
+same-length-3 c = c .before .before .before .before .before .before .before .before .before .before .run-row .kept .1 .1 .1 .0
+
+same-length-4 : tie.Need-same-length-4
+same-length-4 c = c .before .before .append-line .kept .0
+
+returns : tie.Need-returns
+returns c = row-joined _ _ _ _ _ (c .before .before .before .before .before .before .before .before .before .before .before .before .before .before .before .row-of .ensures) (c .before .before .before .before .before .before .before .before .before .before .before .before .before .before .byte .ensures) (c .before .before .before .before .before .before .before .before .before .before .run-row .ensures) (c .before .before .append-line .ensures)
+
+pub run-line-spec : {M : Type 1} → statement M
+run-line-spec =
+    tie.close
+    (tie.spec
+    row-of-requires
+    byte-requires
+    run-row-requires
+    append-line-requires
+    same-length
+    same-length-2
+    same-length-3
+    same-length-4
+    returns)

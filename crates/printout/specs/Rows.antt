@@ -1,0 +1,44 @@
+-- Rows of a script one by one: the trace "stops after a refusal"; a step is made only where a line of 105 bytes has room.
+use Prim.Native.Nat.{ℕ, zero, suc, _+_, _/_}
+use mathlib.Core.List.{List}
+use lib.Dec.{leb, eqb}
+use lib.ListN.{length}
+use Rattle.common.specs.Pick.{pick}
+use Rattle.bench.specs.declared.Bench.{Bench}
+use Rattle.bench.specs.Calls.{Desk, desk}
+use Rattle.benchfile.specs.Row.{rowBytes}
+use Rattle.lines.specs.Text.{Text, text}
+use Rattle.printout.specs.Row.{Shown, rowShown}
+use Rattle.printout.specs.declared.rows.Stand.{Stand}
+
+-- where a script stands: what is lent, the row to run next, the refusal of the last one or 0, the text
+pub record Standing : Type 0 where
+  pub desk : Desk
+  pub next : ℕ
+  pub number : ℕ
+  pub text : Text
+
+abbrev pub standing : Stand → List ℕ → List ℕ → List ℕ → List ℕ → Standing
+standing s l h e out = record { desk = desk (s .bench) l h e; next = s .next; number = s .number; text = text out (s .used) }
+
+-- before row `first`, with no text yet
+abbrev pub start : Bench → List ℕ → List ℕ → List ℕ → ℕ → List ℕ → Standing
+start b l h e first out = record { desk = desk b l h e; next = first; number = 0; text = text out 0 }
+
+abbrev pub after : Standing → Shown → Standing
+after s o = record { desk = o .ran .desk; next = s .next + 1; number = o .ran .number; text = o .text }
+
+-- one row more, unless there is none, one was refused, or its line might have no room
+unfoldable pub stepped : List ℕ → List ℕ → Standing → Standing
+stepped rom script s =
+    pick (leb (length script / 8) (s .next)) s
+    (pick (eqb (s .number) 0)
+    (pick (leb (s .text .used + 105) (length (s .text .bytes)))
+    (after s (rowShown rom (rowBytes script (s .next)) (s .next + 1) (s .desk) (s .text)))
+    s)
+    s)
+
+-- n such steps
+unfoldable pub steps : List ℕ → List ℕ → ℕ → Standing → Standing
+steps rom script zero s = s
+steps rom script (suc n) s = stepped rom script (steps rom script n s)

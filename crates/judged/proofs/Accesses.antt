@@ -15,7 +15,7 @@ use Rattle.bus.specs.View.{channelOf, withChannel, mdmaenOf, withMdmaen, hdmaen
 use Rattle.bus.specs.World.{readAt, writeAt}
 use Rattle.dma.specs.Cycle.{startPending, dueOf, acted, actBy, updated}
 use Rattle.dma.specs.General.{afterByte, stepFrom, dmaStep}
-use Rattle.hdma.specs.Engine.{noHdma}
+use Rattle.state.specs.Hdma.{noHdma}
 use Rattle.judged.proofs.Accepted.{cycle-accepted}
 use Rattle.judged.specs.Tried.{Sizes}
 use Rattle.machine.specs.Cycle.{armed, cycled}

@@ -14,17 +14,20 @@ use Rattle.bench.specs.Ring.{before, capacity, noting, noted}
 use Rattle.bus.specs.World.{readAt, writeAt}
 use Rattle.common.proofs.TableLaws.{pick-elim, pick-case, pick-map}
 use Rattle.common.specs.Pick.{pick}
+use Rattle.entry.proofs.Entries.{length-written}
 use Rattle.entry.specs.Entry.{decodeAt}
 use Rattle.entry.specs.declared.Entry.{Entry}
 use Rattle.machine.specs.Cycle.{cycled}
 use Rattle.ranges.proofs.MachineLaws.{passes}
-use Rattle.rewind.proofs.Good.{Good}
+use Rattle.rewind.proofs.Good.{Good, lawful}
+use Rattle.rewind.proofs.Slots.{after-lt}
 use Rattle.rewind.specs.Promise.{Sound}
-use Rattle.rewind.specs.Rules.{Op, cycle, read, write, pad, plug, answer, Done, changed, obeyed}
+use Rattle.rewind.specs.Rules.{Op, cycle, read, write, pad, plug, answer, Typed, Done, changed, obeyed}
 use Rattle.rewind.specs.Run.{operation, back, Reply, called, stateOf}
 use Rattle.state.specs.declared.Machine.{Machine}
 use Rattle.wram.specs.Banks.{Banks}
 use Rattle.wram.specs.Olds.{noOlds}
+use Rattle.wram.specs.Ranges.{FitBytes}
 
 -- what the table still refuses where everything lent is sound: 5, 6 and 7
 abbrev pub numberOf : Op → Machine → ℕ
@@ -110,6 +113,19 @@ module _ (rom : List ℕ) (d : Desk) (sound : lentOf d (length rom) ≡ 0) where
   op-called (answer addr byte) =
       host-called (addressNumber (lentOf d (length rom)) addr) (answerSet (d .bench .machine) addr byte)
       ∙ ap (λ (k : ℕ). reply (addressNumber k addr) d (obeyed rom (answer addr byte) (stateOf d))) sound
+
+-- an accepted operation leaves a sound desk
+pub op-keeps : (rom : List ℕ) → FitBytes rom → (len : ℕ) (d : Desk) → SoundDesk len d → (o : Op) → Typed o → SoundDesk len (reply 0 d (obeyed rom o (stateOf d)) .desk)
+unfolding noted
+op-keeps rom bytes len d s o t =
+    let c : capacity (d .bench) ≡ len / 256 = ap (λ (n : ℕ). n / 256) (s .fresh) in
+    record {
+      good = lawful rom bytes o t (stateOf d) (s .good) .good;
+      long = length-written (d .entries) (d .bench .slot) (d .bench .machine) (obeyed rom o (stateOf d) .olds) ∙ s .long;
+      fresh = s .fresh;
+      slot-in = rw c (after-lt (len / 256) (d .bench .slot) (s .slot-in));
+      kept-in = rw c (omega arith);
+    }
 
 module _ (rom : List ℕ) (d : Desk) (sound : lentOf d 0 ≡ 0) where
   -- a back step with nothing kept

@@ -13,13 +13,13 @@ use Rattle.bench.specs.Calls.{Desk, lentOf, recorded, restored}
 use Rattle.bench.specs.Ring.{after, before, capacity, noted}
 use Rattle.common.specs.All.{AllOf}
 use Rattle.common.specs.Pick.{pick}
-use Rattle.entry.proofs.Entries.{read-written, length-written, other-slots}
+use Rattle.entry.proofs.Entries.{read-written, other-slots}
 use Rattle.entry.specs.Entry.{decode, decodeAt, written}
 use Rattle.entry.specs.declared.Entry.{Entry}
 use Rattle.ranges.proofs.MachineLaws.{passes}
-use Rattle.rewind.proofs.Calls.{numberOf, reply, SoundDesk, lent-sound, op-called, back-none, back-some, op-sound, back-sound}
+use Rattle.rewind.proofs.Calls.{numberOf, reply, SoundDesk, lent-sound, op-keeps, op-called, back-none, back-some, op-sound, back-sound}
 use Rattle.rewind.proofs.Good.{Good, lawful}
-use Rattle.rewind.proofs.Slots.{before-lt, after-lt, before-after, Behind, behind-step, behind-ne, behind-cap}
+use Rattle.rewind.proofs.Slots.{before-lt, before-after, Behind, behind-step, behind-ne, behind-cap}
 use Rattle.rewind.specs.History.{rest, survive, survivorsFrom, survivors, Placed, Shelf, without, keep, keepFrom, keptOps}
 use Rattle.rewind.specs.Promise.{Sound, Rewound}
 use Rattle.rewind.specs.Rules.{Op, Typed, State, Done, obeyed, obeyedAll}
@@ -173,14 +173,7 @@ module _ (rom : List ℕ) (bytes : FitBytes rom) (small : length rom ≤ 4194304
           trace = record { op = o; was = here } ∷ ps;
           inv =
               record {
-                sound =
-                    record {
-                      good = L .good;
-                      long = length-written (d .entries) n (d .bench .machine) (x .olds) ∙ I .sound .long;
-                      fresh = I .sound .fresh;
-                      slot-in = rw fresh-cap (after-lt cap n (I .sound .slot-in));
-                      kept-in = rw (fresh-cap, e) jc;
-                    };
+                sound = op-keeps rom bytes len d (I .sound) o t;
                 trail = (g, t, z, refl, I .trail);
                 holds = rw (fresh-cap, e, ba) (newest, older);
               };

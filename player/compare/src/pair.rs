@@ -1,0 +1,393 @@
+//! One machine twice: as the oracle has it and as the library has it, with what is lent to each.
+
+use crate::Counts;
+use crate::draw::{Rows, any_row};
+use oracle::any_image::any_image;
+use oracle::calls::{self, Cycle};
+use oracle::image::{ENTRY_SIZE, Entry, Image, Machine};
+use oracle::layout::Field;
+use oracle::lent::{BANK_SIZE, Banks, Lent, MOST_ROM};
+use oracle::random::Random;
+use oracle::ranges::image_in_ranges;
+use oracle::row::Row;
+use player::raw::{self, ANSWER_SIZE, MACHINE_SIZE};
+use std::fmt::Debug;
+use std::rc::Rc;
+
+/// Calls between two comparisons of whole banks.
+const WHOLE: u64 = 256;
+
+pub struct Pair {
+    machine: Machine,
+    banks: Banks,
+    record: Vec<u8>,
+    rom: Rc<[u8]>,
+    bytes: [u8; MACHINE_SIZE],
+    halves: [Vec<u8>; 2],
+    entries: Vec<u8>,
+    /// Lengths that the next call is lent: both banks and the record.
+    lengths: [usize; 3],
+    calls: u64,
+}
+
+impl Pair {
+    /// Both fresh, now and then refused first.
+    pub fn fresh(random: &mut Random, rows: &Rows, counts: &mut Counts) -> Self {
+        let slots = random.pick(&[1, 2, 3, 7, 20]);
+        let mut bytes = [0; MACHINE_SIZE];
+        for (length, cycles) in [
+            (random.between(0, 600), random.two()),
+            (256 * slots, rows.bit_cycles),
+            (256 * slots, 264),
+        ] {
+            let (number, machine) = calls::fresh(length, cycles.into());
+            let ours = raw::fresh(&mut bytes, length as usize, cycles);
+            *counts.entry(("fresh", ours)).or_default() += 1;
+            assert_eq!(
+                (ours, bytes),
+                (number, machine_bytes(&machine)),
+                "fresh {length} {cycles}"
+            );
+            if number == 0 && length == 256 * slots {
+                return Self::around(random, rows, machine, bytes, length as usize);
+            }
+        }
+        unreachable!("264 bit cycles are accepted")
+    }
+
+    fn around(
+        random: &mut Random,
+        rows: &Rows,
+        machine: Machine,
+        bytes: [u8; MACHINE_SIZE],
+        length: usize,
+    ) -> Self {
+        let banks = Banks::filled(&rows.fill);
+        let halves = [0, 1].map(|half| {
+            banks.bytes()[half * BANK_SIZE..][..BANK_SIZE]
+                .iter()
+                .copied()
+                .chain([0xA5])
+                .collect()
+        });
+        let record = random.bytes(length);
+        let (entries, lengths) = (record.clone(), [BANK_SIZE, BANK_SIZE, length]);
+        Self {
+            machine,
+            banks,
+            record,
+            rom: rows.rom.clone().into(),
+            bytes,
+            halves,
+            entries,
+            lengths,
+            calls: 0,
+        }
+    }
+
+    /// One call on both, and everything compared.
+    pub fn call(&mut self, row: Row, counts: &mut Counts) -> Result<(), String> {
+        let (theirs, ours) = (self.oracle(row), self.library(row));
+        same("answers", &ours, &theirs)?;
+        *counts.entry((name(row), ours.number)).or_default() += 1;
+        same("machine", &self.bytes, &machine_bytes(&self.machine))?;
+        if self.entries != self.record {
+            return Err("the records differ".into());
+        }
+        self.calls += 1;
+        if self.calls.is_multiple_of(WHOLE) {
+            self.whole_banks()
+        } else {
+            self.written_bytes()
+        }
+    }
+
+    pub fn whole_banks(&self) -> Result<(), String> {
+        let (low, high) = self.banks.bytes().split_at(BANK_SIZE);
+        let same = self.halves[0][..BANK_SIZE] == *low && self.halves[1][..BANK_SIZE] == *high;
+        let spare = self.halves.iter().all(|half| half[BANK_SIZE] == 0xA5);
+        if same && spare {
+            Ok(())
+        } else {
+            Err("the banks differ".into())
+        }
+    }
+
+    /// The places that the newest entry names.
+    fn written_bytes(&self) -> Result<(), String> {
+        let entry = Entry::take(&self.record[self.newest()..][..ENTRY_SIZE]);
+        for old in &entry.old {
+            let place = old.place.0 as usize % (2 * BANK_SIZE);
+            same(
+                "work RAM byte",
+                &self.halves[place / BANK_SIZE][place % BANK_SIZE],
+                &self.banks.bytes()[place],
+            )?;
+        }
+        Ok(())
+    }
+
+    /// Where the newest entry starts.
+    fn newest(&self) -> usize {
+        let capacity = self.record.len() / ENTRY_SIZE;
+        (self.machine.next_slot as usize % capacity + capacity - 1) % capacity * ENTRY_SIZE
+    }
+
+    fn oracle(&mut self, row: Row) -> Answer {
+        self.banks.lengths = [self.lengths[0], self.lengths[1]];
+        let length = self.lengths[2].min(self.record.len());
+        let (machine, banks, record) = (
+            &mut self.machine,
+            &mut self.banks,
+            &mut self.record[..length],
+        );
+        let lent = &mut Lent {
+            banks,
+            record,
+            rom: &self.rom,
+        };
+        let plain = |number| Answer {
+            number,
+            ..Answer::default()
+        };
+        match row {
+            Row::Cycles { event, flags, .. } => {
+                let cycle = calls::cycle(machine, lent, event, flags & 1 != 0, flags & 2 != 0);
+                Answer {
+                    number: cycle.number,
+                    bytes: cycle_bytes(&cycle),
+                }
+            }
+            Row::Read { bank, addr } => {
+                let moved = calls::read(machine, lent, bank, addr);
+                Answer::moved(moved.number, &[moved.byte, moved.cost as u8])
+            }
+            Row::Write { bank, addr, byte } => {
+                let moved = calls::write(machine, lent, bank, addr, byte);
+                Answer::moved(moved.number, &[moved.cost as u8])
+            }
+            Row::Pad { port, word } => plain(calls::pad(machine, lent, port, word)),
+            Row::Plug { port, value } => plain(calls::plug(machine, lent, port, value != 0)),
+            Row::Answer { addr, byte } => plain(calls::answer(machine, lent, addr, byte)),
+            Row::Back { .. } => plain(calls::back(machine, lent.banks, lent.record)),
+        }
+    }
+
+    fn library(&mut self, row: Row) -> Answer {
+        let mut answer = Answer::default();
+        let [low, high] = &mut self.halves;
+        let length = self.lengths[2].min(self.entries.len());
+        let lent = raw::Lent {
+            machine: &mut self.bytes,
+            low: &mut low[..self.lengths[0]],
+            high: &mut high[..self.lengths[1]],
+            record: &mut self.entries[..length],
+            rom: &self.rom,
+        };
+        let out = &mut answer.bytes;
+        answer.number = match row {
+            Row::Cycles { event, flags, .. } => {
+                raw::cycle(lent, event, flags & 1 != 0, flags & 2 != 0, out)
+            }
+            Row::Read { bank, addr } => raw::read(lent, bank, addr, out),
+            Row::Write { bank, addr, byte } => raw::write(lent, bank, addr, byte, out),
+            Row::Pad { port, word } => raw::pad(lent, port, word),
+            Row::Plug { port, value } => raw::plug(lent, port, value != 0),
+            Row::Answer { addr, byte } => raw::port_answer(lent, addr, byte),
+            Row::Back { .. } => raw::back(lent),
+        };
+        answer
+    }
+
+    /// Now and then something wrong is lent for a call, the image is changed, or a page looked at.
+    pub fn disturb(&mut self, random: &mut Random, counts: &mut Counts) -> Result<(), String> {
+        match random.between(0, 255) {
+            0..4 => self.wrong_lengths(random, counts),
+            4..8 => self.wrong_machine(random, counts),
+            8..10 => self.any_machine(random),
+            10..14 => self.page(random, counts),
+            14..18 => self.call(any_row(random), counts),
+            18..20 => (0..random.between(1, 9))
+                .try_for_each(|_| self.call(Row::Back { count: 1 }, counts)),
+            20 => self.broken_record(random, counts),
+            21 => self.long_rom(random, counts),
+            _ => Ok(()),
+        }
+    }
+
+    fn wrong_lengths(&mut self, random: &mut Random, counts: &mut Counts) -> Result<(), String> {
+        let sound = self.lengths;
+        for length in &mut self.lengths[..2] {
+            *length = random.pick(&[
+                BANK_SIZE,
+                BANK_SIZE,
+                BANK_SIZE,
+                BANK_SIZE + 1,
+                BANK_SIZE - 1,
+                0,
+            ]);
+        }
+        let record = sound[2];
+        self.lengths[2] = random
+            .pick(&[record, record, record - 1, record - 256, 0, 255])
+            .min(record);
+        let answer = self.call(any_row(random), counts);
+        self.lengths = sound;
+        answer
+    }
+
+    /// Any byte of the machine changed, for one call at least; one that breaks the ranges is put back after it.
+    fn wrong_machine(&mut self, random: &mut Random, counts: &mut Counts) -> Result<(), String> {
+        let (machine, bytes) = (self.machine, self.bytes);
+        let places = random.pick(&[(0, 221), (34, 98), (256, 279)]);
+        let place = random.between(places.0, places.1) as usize;
+        let any = random.byte();
+        self.bytes[place] = random.pick(&[any, 2, 3, 4, 8, 0x7D, 0x80, 0xFF]);
+        self.machine = machine_of(&self.bytes);
+        self.call(any_row(random), counts)?;
+        if !self.sound() {
+            (self.machine, self.bytes) = (machine, bytes);
+        }
+        Ok(())
+    }
+
+    fn sound(&self) -> bool {
+        let (machine, length) = (&self.machine, self.record.len() as u64);
+        let capacity = length / ENTRY_SIZE as u64;
+        let counts = machine.next_slot < capacity
+            && machine.kept <= capacity
+            && machine.record_length == length;
+        counts && image_in_ranges(&machine.image)
+    }
+
+    /// Another machine within the ranges.
+    fn any_machine(&mut self, random: &mut Random) -> Result<(), String> {
+        self.machine.image = any_image(random);
+        if random.once_in(20) {
+            self.machine.image.clock = u64::MAX - random.between(0, 1);
+        }
+        self.bytes = machine_bytes(&self.machine);
+        Ok(())
+    }
+
+    /// Bytes of the newest entry changed, and a back step over it.
+    fn broken_record(&mut self, random: &mut Random, counts: &mut Counts) -> Result<(), String> {
+        let place = self.newest() + random.between(0, 255) as usize;
+        let (old, new) = (self.record[place], random.byte());
+        (self.record[place], self.entries[place]) = (new, new);
+        self.call(Row::Back { count: 1 }, counts)?;
+        (self.record[place], self.entries[place]) = (old, old);
+        Ok(())
+    }
+
+    fn long_rom(&mut self, random: &mut Random, counts: &mut Counts) -> Result<(), String> {
+        if !random.once_in(50) {
+            return Ok(());
+        }
+        let sound = self.rom.clone();
+        self.rom = vec![0; MOST_ROM + random.between(0, 1) as usize].into();
+        let answer = self.call(any_row(random), counts);
+        self.rom = sound;
+        answer
+    }
+
+    fn page(&mut self, random: &mut Random, counts: &mut Counts) -> Result<(), String> {
+        let any = random.two();
+        let page = random.pick(&[any % 520, any]);
+        self.banks.lengths = [
+            BANK_SIZE,
+            random.pick(&[BANK_SIZE, BANK_SIZE, BANK_SIZE - 1]),
+        ];
+        let mut bytes = [0; 256];
+        let number = raw::page(
+            &self.halves[0][..BANK_SIZE],
+            &self.halves[1][..self.banks.lengths[1]],
+            page,
+            &mut bytes,
+        );
+        *counts.entry(("page look", number)).or_default() += 1;
+        same(
+            "page number",
+            &number,
+            &calls::page_look_number(&self.banks, page.into()),
+        )?;
+        let seen = calls::page_look(&self.banks, page.into());
+        if seen.is_empty() {
+            same("page", &bytes, &[0; 256])
+        } else {
+            same("page", &bytes[..], seen)
+        }
+    }
+}
+
+/// The number, and what the call answers beside it.
+#[derive(Debug, PartialEq)]
+struct Answer {
+    number: u8,
+    bytes: [u8; ANSWER_SIZE],
+}
+
+impl Default for Answer {
+    fn default() -> Self {
+        Self {
+            number: 0,
+            bytes: [0; ANSWER_SIZE],
+        }
+    }
+}
+
+impl Answer {
+    fn moved(number: u8, moved: &[u8]) -> Self {
+        let mut answer = Self {
+            number,
+            ..Self::default()
+        };
+        answer.bytes[..moved.len()].copy_from_slice(moved);
+        answer
+    }
+}
+
+fn cycle_bytes(cycle: &Cycle) -> [u8; ANSWER_SIZE] {
+    let mut bytes = [0; ANSWER_SIZE];
+    bytes[..3].copy_from_slice(&[cycle.held.into(), cycle.nmi.into(), cycle.count as u8]);
+    for (part, access) in bytes[3..].chunks_exact_mut(5).zip(&cycle.accesses) {
+        let [low, high] = access.addr.to_le_bytes();
+        part.copy_from_slice(&[access.write.into(), access.bank, low, high, access.byte]);
+    }
+    bytes
+}
+
+fn machine_bytes(machine: &Machine) -> [u8; MACHINE_SIZE] {
+    let mut bytes = [0; MACHINE_SIZE];
+    machine.image.put(&mut bytes);
+    let numbers = [machine.next_slot, machine.kept, machine.record_length];
+    bytes[256..]
+        .chunks_exact_mut(8)
+        .zip(numbers)
+        .for_each(|(part, number)| number.put(part));
+    bytes
+}
+
+fn machine_of(bytes: &[u8; MACHINE_SIZE]) -> Machine {
+    let number = |at: usize| u64::take(&bytes[at..]);
+    Machine {
+        image: Image::take(bytes),
+        next_slot: number(256),
+        kept: number(264),
+        record_length: number(272),
+    }
+}
+
+fn name(row: Row) -> &'static str {
+    ["cycle", "read", "write", "pad", "plug", "answer", "back"][usize::from(row.kind()) - 1]
+}
+
+fn same<T: PartialEq + Debug + ?Sized>(what: &str, ours: &T, theirs: &T) -> Result<(), String> {
+    if ours == theirs {
+        Ok(())
+    } else {
+        Err(format!(
+            "{what}: the library has {ours:?}, the oracle {theirs:?}"
+        ))
+    }
+}

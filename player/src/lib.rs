@@ -1,0 +1,212 @@
+//! The part of an SNES player that moves bytes: bus, registers, work RAM, DMA and HDMA, joypads, one master cycle at a
+//! time, with a record that takes operations back. The code behind it is Rattle, proved against its definitions for
+//! every input; this crate lends it memory and names its answers.
+//!
+//! ```
+//! use player::{Event, Machine};
+//!
+//! let mut machine = Machine::fresh(64, 264, vec![])?;
+//! machine.write(0x7E, 0x1234, 0x5A)?;
+//! assert_eq!(machine.read(0x00, 0x1234)?.byte, 0x5A);
+//! let cycle = machine.cycle(Event::VBlankStart, false, false)?;
+//! assert!(!cycle.held);
+//! machine.back()?; // the cycle is undone
+//! # Ok::<(), player::Refusal>(())
+//! ```
+
+pub mod raw;
+mod refusal;
+
+use raw::{ANSWER_SIZE, Lent, MACHINE_SIZE};
+pub use refusal::Refusal;
+
+const BANK_SIZE: usize = 65_536;
+const ENTRY_SIZE: usize = 256;
+const PAGE_SIZE: usize = 256;
+
+/// What the PPU has to say in a cycle.
+#[derive(Clone, Copy, Debug, PartialEq, Eq)]
+pub enum Event {
+    None,
+    HBlankStart,
+    NormalLine,
+    VBlankStart,
+    FrameStart,
+}
+
+/// One access of the bus by the DMA unit.
+#[derive(Clone, Copy, Debug, PartialEq, Eq)]
+pub struct Access {
+    pub write: bool,
+    pub bank: u8,
+    pub address: u16,
+    pub byte: u8,
+}
+
+/// What a cycle answers.
+#[derive(Clone, Copy, Debug, PartialEq, Eq)]
+pub struct Cycle {
+    /// DMA had the bus.
+    pub held: bool,
+    /// The NMI line rose.
+    pub nmi: bool,
+    bytes: [u8; ANSWER_SIZE],
+}
+
+impl Cycle {
+    /// The accesses of this cycle, in order: none to eleven.
+    pub fn accesses(&self) -> impl ExactSizeIterator<Item = Access> + '_ {
+        self.bytes[3..]
+            .chunks_exact(5)
+            .take(self.bytes[2].into())
+            .map(|bytes| Access {
+                write: bytes[0] != 0,
+                bank: bytes[1],
+                address: u16::from_le_bytes([bytes[2], bytes[3]]),
+                byte: bytes[4],
+            })
+    }
+}
+
+/// A byte read, and its cost in master cycles.
+#[derive(Clone, Copy, Debug, PartialEq, Eq)]
+pub struct Read {
+    pub byte: u8,
+    pub cost: u8,
+}
+
+/// A machine with its work RAM, its record and its ROM.
+#[derive(Clone)]
+pub struct Machine {
+    bytes: [u8; MACHINE_SIZE],
+    low: Box<[u8]>,
+    high: Box<[u8]>,
+    record: Box<[u8]>,
+    rom: Box<[u8]>,
+}
+
+impl Machine {
+    /// A machine at power-on whose record keeps `slots` operations, with work RAM at zeros. `bit_cycles` is how long
+    /// the automatic joypad read takes for a bit (264 on the console).
+    pub fn fresh(slots: usize, bit_cycles: u16, rom: Vec<u8>) -> Result<Self, Refusal> {
+        let length = slots.checked_mul(ENTRY_SIZE).ok_or(Refusal::RecordLength)?;
+        let mut bytes = [0; MACHINE_SIZE];
+        Refusal::check(raw::fresh(&mut bytes, length, bit_cycles))?;
+        let bank = || vec![0; BANK_SIZE].into();
+        Ok(Self {
+            bytes,
+            low: bank(),
+            high: bank(),
+            record: vec![0; length].into(),
+            rom: rom.into(),
+        })
+    }
+
+    fn lent(&mut self) -> Lent<'_> {
+        let Self {
+            bytes,
+            low,
+            high,
+            record,
+            rom,
+        } = self;
+        Lent {
+            machine: bytes,
+            low,
+            high,
+            record,
+            rom,
+        }
+    }
+
+    /// One master cycle.
+    pub fn cycle(
+        &mut self,
+        event: Event,
+        line_due: bool,
+        timer_hit: bool,
+    ) -> Result<Cycle, Refusal> {
+        let mut bytes = [0; ANSWER_SIZE];
+        Refusal::check(raw::cycle(
+            self.lent(),
+            event as u8,
+            line_due,
+            timer_hit,
+            &mut bytes,
+        ))?;
+        Ok(Cycle {
+            held: bytes[0] != 0,
+            nmi: bytes[1] != 0,
+            bytes,
+        })
+    }
+
+    /// A byte from the bus, as the CPU reads it.
+    pub fn read(&mut self, bank: u8, address: u16) -> Result<Read, Refusal> {
+        let mut out = [0; 2];
+        Refusal::check(raw::read(self.lent(), bank, address, &mut out))?;
+        Ok(Read {
+            byte: out[0],
+            cost: out[1],
+        })
+    }
+
+    /// A byte to the bus, as the CPU writes it; answers the cost.
+    pub fn write(&mut self, bank: u8, address: u16, byte: u8) -> Result<u8, Refusal> {
+        let mut out = [0; 1];
+        Refusal::check(raw::write(self.lent(), bank, address, byte, &mut out))?;
+        Ok(out[0])
+    }
+
+    /// The buttons of a controller port (0 or 1) from the next cycle on; the low four bits are dropped.
+    pub fn pad(&mut self, port: u8, word: u16) -> Result<(), Refusal> {
+        Refusal::check(raw::pad(self.lent(), port, word))
+    }
+
+    /// Plugs a pad into a controller port, or pulls it.
+    pub fn plug(&mut self, port: u8, connected: bool) -> Result<(), Refusal> {
+        Refusal::check(raw::plug(self.lent(), port, connected))
+    }
+
+    /// What the PPU ($2134-$213F) or the APU ($2140-$2143) answers from now on.
+    pub fn answer(&mut self, address: u16, byte: u8) -> Result<(), Refusal> {
+        Refusal::check(raw::port_answer(self.lent(), address, byte))
+    }
+
+    /// Takes the newest operation back.
+    pub fn back(&mut self) -> Result<(), Refusal> {
+        Refusal::check(raw::back(self.lent()))
+    }
+
+    /// A page of work RAM: 0 to 255 in bank $7E, 256 to 511 in bank $7F.
+    pub fn page(&self, page: u16) -> Result<&[u8], Refusal> {
+        let mut out = [0; PAGE_SIZE];
+        Refusal::check(raw::page(&self.low, &self.high, page, &mut out))?;
+        let (bank, page) = if page < 256 {
+            (&self.low, page)
+        } else {
+            (&self.high, page - 256)
+        };
+        Ok(&bank[usize::from(page) * PAGE_SIZE..][..PAGE_SIZE])
+    }
+
+    /// Both work RAM banks, to be filled before a run.
+    pub fn banks_mut(&mut self) -> [&mut [u8]; 2] {
+        [&mut self.low, &mut self.high]
+    }
+
+    /// How many operations can be taken back.
+    pub fn kept(&self) -> u64 {
+        u64::from_le_bytes(self.bytes[264..272].try_into().expect("eight bytes"))
+    }
+
+    /// The machine's bytes, as docs/PLAYER.md has them.
+    pub fn bytes(&self) -> &[u8; MACHINE_SIZE] {
+        &self.bytes
+    }
+}
+
+/// Whether bytes are a bench file.
+pub fn file_check(file: &[u8]) -> Result<(), Refusal> {
+    Refusal::check(raw::file_check(file))
+}

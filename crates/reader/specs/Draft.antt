@@ -1,5 +1,6 @@
 -- A line while it is read. Phases: 0 nothing yet, 1 settings, 2 fill, 3 ROM, 4 rows. Kinds: 1 to 7 rows, 8 bitcycles, 9 fill, 10 rom,
--- 11 rom file. States: what is expected, as src/draft.rt lists them. Emit: 0 nothing, 1 byte, 2 settings, 3 row, 4 file, 9 failed.
+-- 11 rom file. States: what is expected, as src/draft.rt lists them. Emit: 0 nothing, 1 byte of the fill, 2 settings,
+-- 3 row, 4 file, 5 byte of the ROM, 9 failed.
 use Prim.Native.Nat.{ℕ}
 use mathlib.Core.Bool.{Bool, _&&_}
 use mathlib.Core.List.{List, [], _∷_}

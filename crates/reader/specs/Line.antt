@@ -25,6 +25,7 @@ mosts =
     ∷ at 15 65535
     ∷ at 16 16777215
     ∷ at 17 255
+    ∷ at 19 255
     ∷ []
 
 abbrev pub mostOf : ℕ → ℕ
@@ -40,7 +41,7 @@ leastOf s = find leasts s 0
 -- what is expected after a number
 abbrev pub nexts : List (Entry ℕ)
 nexts =
-    at 1 2 ∷ at 3 2 ∷ at 6 7 ∷ at 8 5 ∷ at 11 13 ∷ at 12 13 ∷ at 13 13 ∷ at 16 5 ∷ at 17 9 ∷ []
+    at 1 2 ∷ at 3 2 ∷ at 6 7 ∷ at 8 5 ∷ at 11 13 ∷ at 12 19 ∷ at 13 13 ∷ at 16 5 ∷ at 17 9 ∷ at 19 19 ∷ []
 
 abbrev pub nextOf : ℕ → ℕ
 nextOf s = find nexts s 18
@@ -48,7 +49,7 @@ nextOf s = find nexts s 18
 -- where the bytes of a number go, as document 01 lays out the rows
 abbrev pub firstBytes : ℕ → ℕ → List (Entry ℕ)
 firstBytes l h =
-    at 1 l ∷ at 4 h ∷ at 6 l ∷ at 10 l ∷ at 11 l ∷ at 12 l ∷ at 13 l ∷ at 15 l ∷ at 16 h ∷ at 17 l ∷ []
+    at 1 l ∷ at 4 h ∷ at 6 l ∷ at 10 l ∷ at 11 l ∷ at 12 l ∷ at 13 l ∷ at 15 l ∷ at 16 h ∷ at 17 l ∷ at 19 l ∷ []
 
 abbrev pub byte1Of : ℕ → ℕ → ℕ → ℕ → ℕ
 byte1Of s x l h = find (firstBytes l h) s x
@@ -73,7 +74,7 @@ byte4Of s x l = find (fourthBytes l) s x
 
 -- bytes of a fill or a ROM are complete as they come
 abbrev pub emits : List (Entry ℕ)
-emits = at 11 1 ∷ at 12 1 ∷ at 13 1 ∷ []
+emits = at 11 1 ∷ at 12 5 ∷ at 13 1 ∷ at 19 5 ∷ []
 
 abbrev pub emitOf : ℕ → ℕ
 emitOf s = find emits s 0
@@ -114,7 +115,7 @@ closedOf k e = find (closes e) k 3
 
 -- a line may end behind its options, its bytes, or where its end is expected
 abbrev pub endsOf : ℕ → Bool
-endsOf s = eqb s 2 || eqb s 13 || eqb s 18
+endsOf s = eqb s 2 || eqb s 13 || eqb s 18 || eqb s 19
 
 -- the end of a line with words
 unfoldable pub closingOf : Draft → Draft

@@ -4,9 +4,10 @@ ghost use Rattle.reader.specs.Draft.{failedOf, kindOf, firstOf, needOf, 
 
 // Phases: 0 nothing yet, 1 settings, 2 fill, 3 ROM, 4 rows. Kinds: 1 to 7 rows, 8 bitcycles, 9 fill, 10 rom, 11 rom file.
 // States, what is expected: 0 a line, 1 count of cycles, 2 options, 3 event, 4 address of a read, 5 byte, 6 port of a pad, 7 word of a
-// pad, 8 address of an answer, 9 on or off, 10 bit cycles, 11 first byte of a fill, 12 first byte of a ROM or `file`, 13 more bytes,
-// 14 name, 15 count of back, 16 address of a write, 17 port of a plug, 18 the line's end.
-// Emit, what the last character completed: 0 nothing, 1 byte b1, 2 settings, 3 row, 4 the ROM file, 9 it failed.
+// pad, 8 address of an answer, 9 on or off, 10 bit cycles, 11 first byte of a fill, 12 first byte of a ROM or `file`, 13 more
+// bytes of a fill, 14 name, 15 count of back, 16 address of a write, 17 port of a plug, 18 the line's end, 19 more bytes of a ROM.
+// Emit, what the last character completed: 0 nothing, 1 byte b1 of the fill, 2 settings, 3 row, 4 the ROM file, 5 byte b1 of the ROM,
+// 9 it failed.
 pub struct Draft {
     pub phase: u8,
     pub state: u8,

@@ -27,6 +27,7 @@ fn most(state: u8) -> u64
         15 => 65535,
         16 => 16777215,
         17 => 255,
+        19 => 255,
         _ => 0,
     }
 }
@@ -56,10 +57,11 @@ fn next(state: u8) -> u8
         6 => 7,
         8 => 5,
         11 => 13,
-        12 => 13,
+        12 => 19,
         13 => 13,
         16 => 5,
         17 => 9,
+        19 => 19,
         _ => 18,
     }
 }
@@ -79,6 +81,7 @@ fn byte1(state: u8, b1: u8, low: u8, high: u8) -> u8
         15 => low,
         16 => high,
         17 => low,
+        19 => low,
         _ => b1,
     }
 }
@@ -128,8 +131,9 @@ fn emitted(state: u8) -> u8
 {
     match state {
         11 => 1,
-        12 => 1,
+        12 => 5,
         13 => 1,
+        19 => 5,
         _ => 0,
     }
 }
@@ -217,7 +221,7 @@ fn closed(kind: u8, emit: u8) -> u8
 fn ends(state: u8) -> bool
     ensures { λ r. ⌜ r ≡ endsOf state ⌝ }
 {
-    (state == 2) | (state == 13) | (state == 18)
+    (state == 2) | (state == 13) | (state == 18) | (state == 19)
 }
 
 fn closing(d: Draft) -> Draft

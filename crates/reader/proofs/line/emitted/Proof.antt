@@ -6,21 +6,25 @@ use Rattle.reader.proofs.line.emitted.Tie as tie
 use Rattle.reader.proofs.line.emitted.Reads as reads
 use Rattle.reader.proofs.line.emitted.Lts as lts
 
--- src/line.rt:117:1
+-- src/line.rt:129:1
 returns : tie.Need-returns
 returns c = simp (c .match .keys1)
 
--- src/line.rt:117:1
+-- src/line.rt:129:1
 returns-2 : tie.Need-returns-2
 returns-2 c = simp (c .match .keys2)
 
--- src/line.rt:117:1
+-- src/line.rt:129:1
 returns-3 : tie.Need-returns-3
 returns-3 c = simp (c .match .keys3)
 
--- src/line.rt:117:1
+-- src/line.rt:129:1
 returns-4 : tie.Need-returns-4
-returns-4 c = let a = c .before .args in sym (find-none Unit (emits) (a .state) (0) (c .match .rest))
+returns-4 c = simp (c .match .keys4)
+
+-- src/line.rt:129:1
+returns-5 : tie.Need-returns-5
+returns-5 c = let a = c .before .args in sym (find-none Unit (emits) (a .state) (0) (c .match .rest))
 
 pub emitted-spec : {M : Type 1} → statement M
-emitted-spec = tie.close (tie.spec returns returns-2 returns-3 returns-4)
+emitted-spec = tie.close (tie.spec returns returns-2 returns-3 returns-4 returns-5)

@@ -64,7 +64,11 @@ returns-14 c = simp (c .match .keys14)
 
 -- src/line.rt:12:1
 returns-15 : tie.Need-returns-15
-returns-15 c = let a = c .before .args in sym (find-none Unit (mosts) (a .state) (0) (c .match .rest))
+returns-15 c = simp (c .match .keys15)
+
+-- src/line.rt:12:1
+returns-16 : tie.Need-returns-16
+returns-16 c = let a = c .before .args in sym (find-none Unit (mosts) (a .state) (0) (c .match .rest))
 
 pub most-spec : {M : Type 1} → statement M
 most-spec =
@@ -84,4 +88,5 @@ most-spec =
     returns-12
     returns-13
     returns-14
-    returns-15)
+    returns-15
+    returns-16)

@@ -94,7 +94,7 @@ switched d x = draft (d .phase) 18 (d .kind) (d .b1) x (d .b3) (d .b4) (d .emit)
 unfoldable pub switchOf : Draft → ℕ → Draft
 switchOf d v = pick (eqb v 887) (switched d 1) (pick (eqb v 31659) (switched d 0) (failedOf d))
 
--- file
+-- file; no ROM line may follow it
 unfoldable pub fileOf : Draft → ℕ → Draft
 fileOf d v =
-    pick (eqb v 723938) (draft (d .phase) 14 11 (d .b1) (d .b2) (d .b3) (d .b4) (d .emit)) (failedOf d)
+    pick (eqb v 723938) (draft 4 14 11 (d .b1) (d .b2) (d .b3) (d .b4) (d .emit)) (failedOf d)

@@ -1,5 +1,5 @@
 -- The text, one character after the other.
-use Prim.Native.Nat.{ℕ}
+use Prim.Native.Nat.{ℕ, _+_}
 use mathlib.Core.Bool.{Bool, _||_}
 use mathlib.Core.List.{List, [], _∷_}
 use lib.Dec.{eqb}
@@ -66,6 +66,16 @@ stepOf w d s c =
 -- one character more; after a failure nothing changes
 unfoldable pub readOf : Reader → ℕ → Reader
 readOf r c = pick (eqb (r .draft .emit) 9) r (stepOf (r .word) (quietOf (r .draft)) (signOf c) c)
+
+-- how many characters are read before the one at which the text fails; all, if it does not
+unfoldable pub soundOf : Reader → List ℕ → ℕ
+soundOf r [] = 0
+soundOf r (c ∷ t) = pick (eqb (readOf r c .draft .emit) 9) 0 (1 + soundOf (readOf r c) t)
+
+-- how many are read before a file name starts; all, if there is none
+unfoldable pub unnamedOf : Reader → List ℕ → ℕ
+unnamedOf r [] = 0
+unnamedOf r (c ∷ t) = pick (eqb (r .word .form) 8) 0 (1 + unnamedOf (readOf r c) t)
 
 -- all characters of a text
 unfoldable pub reads : Reader → List ℕ → Reader

@@ -169,12 +169,13 @@ pub fn switch(d: Draft, v: u64) -> Draft
     failed(d)
 }
 
-// file
+// file; no ROM line may follow it
 pub fn file(d: Draft, v: u64) -> Draft
     ensures { λ r. ⌜ r ≡ fileOf d v ⌝ }
 {
     let mut r = d;
     if v == 723938 {
+        r.phase = 4;
         r.kind = 11;
         r.state = 14;
         return r;

@@ -3,4 +3,5 @@ pub mod draft;
 pub mod letter;
 pub mod line;
 pub mod reader;
+pub mod text;
 pub mod word;

@@ -1,3 +1,4 @@
+use Rattle.lister.proofs.Join.{listed}
 use borrow.Author.Needs.{needs}
 use Rattle.lister.proofs.list.list_file.Statement.{statement}
 use Rattle.lister.proofs.list.list_file.Tie as tie
@@ -59,7 +60,7 @@ same-length c = search needs
 
 -- src/list.rt:40:1
 returns : tie.Need-returns
-returns c = ?
+returns c = listed _ (c .before .before .before .before .before .before .before .before .before .before .before .before .before .before .before .before .before .before .before .before .before .before .before .before .before .args .file .now) (c .before .before .before .before .before .before .before .before .before .before .before .before .before .before .before .before .before .before .before .before .before .before .section-look .ensures) (c .before .before .before .before .before .before .before .before .before .before .before .before .before .before .before .before .before .before .before .before .before .section-look2 .ensures) (c .before .before .before .before .before .before .before .before .before .before .before .before .before .before .before .before .before .before .before .before .section-look3 .ensures) (c .before .before .before .before .before .before .before .before .before .before .before .before .before .before .before .before .before .before .before .section-look4 .ensures) (c .before .before .before .before .before .before .before .before .before .before .before .before .before .before .before .before .before .before .two .ensures) (c .before .before .before .before .before .before .before .before .before .before .before .before .before .before .before .before .settings .ensures) (c .before .before .before .before .before .before .before .before .before .before .before .lines .ensures) (c .before .before .before .before .before .before .lines2 .ensures) (c .before .before .rows .ensures)
 
 pub list-file-spec : {M : Type 1} → statement M
 list-file-spec =

@@ -1,0 +1,21 @@
+use borrow.Author.Needs.{needs}
+use Rattle.assembler.proofs.bind.fill_size.Statement.{statement}
+use Rattle.assembler.proofs.bind.fill_size.Tie as tie
+use Rattle.assembler.proofs.bind.fill_size.Reads as reads
+use Rattle.assembler.proofs.bind.fill_size.Lts as lts
+use Rattle.assembler.proofs.bind.size.Reads as size-reads
+
+-- src/bind.rt:20:27
+size-requires : tie.Need-size-requires
+size-requires c κs = search needs
+
+-- src/bind.rt:17:1
+returns : tie.Need-returns
+returns c = ?
+
+-- src/bind.rt:17:1
+returns-2 : tie.Need-returns-2
+returns-2 c = ?
+
+pub fill-size-spec : {M : Type 1} → statement M
+fill-size-spec = tie.close (tie.spec size-requires returns returns-2)

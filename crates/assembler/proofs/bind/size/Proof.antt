@@ -1,0 +1,20 @@
+use borrow.Author.Needs.{needs}
+use Rattle.assembler.proofs.bind.size.Statement.{statement}
+use Rattle.assembler.proofs.bind.size.Tie as tie
+use Rattle.assembler.proofs.bind.size.Reads as reads
+use Rattle.assembler.proofs.bind.size.Lts as lts
+
+-- src/bind.rt:13:20
+cast-result : tie.Need-cast-result
+cast-result c = search needs
+
+-- src/bind.rt:10:1
+returns : tie.Need-returns
+returns c = ?
+
+-- src/bind.rt:10:1
+returns-2 : tie.Need-returns-2
+returns-2 c = ?
+
+pub size-spec : {M : Type 1} → statement M
+size-spec = tie.close (tie.spec cast-result returns returns-2)

@@ -1,0 +1,51 @@
+use borrow.Author.Needs.{needs}
+use Rattle.assembler.proofs.desk.to_rom.Statement.{statement}
+use Rattle.assembler.proofs.desk.to_rom.Tie as tie
+use Rattle.assembler.proofs.desk.to_rom.Reads as reads
+use Rattle.assembler.proofs.desk.to_rom.Lts as lts
+use Rattle.append.proofs.put.Reads as put-reads
+
+-- src/desk.rt:40:9
+put-requires : tie.Need-put-requires
+put-requires c κs = search needs
+
+-- src/desk.rt:40:9
+same-length : tie.Need-same-length
+same-length c = search needs
+
+-- src/desk.rt:40:9
+returns : tie.Need-returns
+returns c = ?
+
+-- src/desk.rt:44:29
+slice-aggregate-put : tie.Need-slice-aggregate-put
+slice-aggregate-put c = search needs
+
+-- src/desk.rt:44:9
+put-requires-2 : tie.Need-put-requires-2
+put-requires-2 c κs = search needs
+
+-- src/desk.rt:44:9
+same-length-2 : tie.Need-same-length-2
+same-length-2 c = search needs
+
+-- src/desk.rt:44:9
+returns-2 : tie.Need-returns-2
+returns-2 c = ?
+
+-- src/desk.rt:36:1
+returns-3 : tie.Need-returns-3
+returns-3 c = ?
+
+pub to-rom-spec : {M : Type 1} → statement M
+to-rom-spec =
+    tie.close
+    (tie.spec
+    put-requires
+    same-length
+    returns
+    slice-aggregate-put
+    put-requires-2
+    same-length-2
+    returns-2
+    returns-3)

@@ -97,9 +97,10 @@ fn run(
     let mut i = 0;
     while i < text.len() {
         let c = text[i];
+        let after = i + 1;
         let next = step(now, front, rom, script, file, c);
         now = next;
-        i += 1;
+        i = after;
     }
     now
 }

@@ -1,3 +1,6 @@
+use mathlib.Core.Path.{sym, _∙_}
+use borrow.Author.Tests.{eq-eqb, ne-eqb}
+use Rattle.assembler.specs.Assemble.{checked}
 use borrow.Author.Needs.{needs}
 use Rattle.assembler.proofs.assemble.check.Statement.{statement}
 use Rattle.assembler.proofs.assemble.check.Tie as tie
@@ -16,11 +19,13 @@ file-check-requires c κs = search needs
 
 -- src/assemble.rt:21:1
 returns : tie.Need-returns
-returns c = ?
+unfolding checked
+returns c = simp (eq-eqb _ _ (rw ((c .before .before .part .ensures)) at (sym (c .before .file-check .ensures) ∙ (c .if1 .taken))))
 
 -- src/assemble.rt:21:1
 returns-2 : tie.Need-returns-2
-returns-2 c = ?
+unfolding checked
+returns-2 c = simp (ne-eqb _ _ (rw ((c .before .before .part .ensures)) at (rw ((c .before .file-check .ensures)) at (c .if1 .left))))
 
 pub check-spec : {M : Type 1} → statement M
 check-spec = tie.close (tie.spec part-requires file-check-requires returns returns-2)

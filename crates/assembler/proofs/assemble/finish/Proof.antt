@@ -1,3 +1,4 @@
+use Rattle.assembler.proofs.Join.{finished-by}
 use borrow.Author.Needs.{needs}
 use Rattle.assembler.proofs.assemble.finish.Statement.{statement}
 use Rattle.assembler.proofs.assemble.finish.Tie as tie
@@ -20,7 +21,7 @@ same-length c = search needs
 
 -- src/assemble.rt:30:1
 returns : tie.Need-returns
-returns c = ?
+returns c = finished-by _ _ _ _ (c .before .before .before .before .bind .ensures) (c .check .ensures)
 
 pub finish-spec : {M : Type 1} → statement M
 finish-spec = tie.close (tie.spec bind-requires check-requires same-length returns)

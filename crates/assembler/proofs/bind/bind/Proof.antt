@@ -1,3 +1,4 @@
+use Rattle.assembler.proofs.Join.{bound-by}
 use borrow.Author.Needs.{needs}
 use Rattle.assembler.proofs.bind.bind.Statement.{statement}
 use Rattle.assembler.proofs.bind.bind.Tie as tie
@@ -42,7 +43,7 @@ same-length c = search needs
 
 -- src/bind.rt:54:1
 returns : tie.Need-returns
-returns c = ?
+returns c = bound-by _ _ _ _ (c .before .before .before .before .before .before .before .before .before .before .before .before .before .before .before .before .before .before .fill-size .ensures) (c .before .before .before .before .before .before .before .before .before .before .before .before .before .before .before .before .before .size .ensures) (c .before .before .before .before .before .before .before .before .before .before .before .before .before .before .before .before .size2 .ensures) (c .before .before .before .before .before .before .before .before .before .before .before .before .before .before .contents .ensures) (c .before .before .before .before .before .before .before .before .before .before .put .ensures) (c .before .before .before .before .before .before .put2 .ensures) (c .before .before .put3 .ensures)
 
 pub bind-spec : {M : Type 1} → statement M
 bind-spec =

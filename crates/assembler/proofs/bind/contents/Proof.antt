@@ -1,3 +1,5 @@
+use Rattle.lister.proofs.Join.{then}
+use Rattle.assembler.specs.Bind.{contentsText}
 use borrow.Author.Needs.{needs}
 use Rattle.assembler.proofs.bind.contents.Statement.{statement}
 use Rattle.assembler.proofs.bind.contents.Tie as tie
@@ -39,7 +41,8 @@ same-length c = search needs
 
 -- src/bind.rt:44:1
 returns : tie.Need-returns
-returns c = ?
+unfolding contentsText
+returns c = then _ _ _ (c .before .before .before .before .before .before .before .before .before .before .before .before .before .before .head .ensures) (then _ _ _ (c .before .before .before .before .before .before .before .before .before .before .head2 .ensures) (then _ _ _ (c .before .before .before .before .before .before .head3 .ensures) (c .before .before .head4 .ensures)))
 
 pub contents-spec : {M : Type 1} → statement M
 contents-spec =

@@ -1,3 +1,6 @@
+use Rattle.lister.proofs.Join.{then}
+use mathlib.Core.Path.{_∙_}
+use Rattle.assembler.specs.Bind.{headOf}
 use borrow.Author.Needs.{needs}
 use Rattle.assembler.proofs.bind.head.Statement.{statement}
 use Rattle.assembler.proofs.bind.head.Tie as tie
@@ -36,7 +39,8 @@ same-length c = search needs
 
 -- src/bind.rt:35:1
 returns : tie.Need-returns
-returns c = ?
+unfolding headOf
+returns c = then _ _ _ (c .before .before .before .before .before .before .before .put .ensures) (c .before .before .put2 .ensures) ∙ simp ((c .before .before .before .before .before .before .before .before .before .before .before .four .ensures), (c .before .before .before .before .before .before .before .before .before .before .four2 .ensures))
 
 pub head-spec : {M : Type 1} → statement M
 head-spec =

@@ -1,3 +1,5 @@
+use borrow.Author.Tests.{lt-ltb, le-ltb}
+use Rattle.assembler.specs.Bind.{sizeOf}
 use borrow.Author.Needs.{needs}
 use Rattle.assembler.proofs.bind.size.Statement.{statement}
 use Rattle.assembler.proofs.bind.size.Tie as tie
@@ -10,11 +12,13 @@ cast-result c = search needs
 
 -- src/bind.rt:10:1
 returns : tie.Need-returns
-returns c = ?
+unfolding sizeOf
+returns c = simp (lt-ltb _ _ (c .if1 .taken))
 
 -- src/bind.rt:10:1
 returns-2 : tie.Need-returns-2
-returns-2 c = ?
+unfolding sizeOf
+returns-2 c = simp (le-ltb _ _ (c .if1 .left))
 
 pub size-spec : {M : Type 1} → statement M
 size-spec = tie.close (tie.spec cast-result returns returns-2)

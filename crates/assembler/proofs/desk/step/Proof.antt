@@ -1,3 +1,4 @@
+use Rattle.assembler.proofs.Join.{stepped-by}
 use borrow.Author.Needs.{needs}
 use Rattle.assembler.proofs.desk.step.Statement.{statement}
 use Rattle.assembler.proofs.desk.step.Tie as tie
@@ -38,7 +39,7 @@ same-length-3 c = search needs
 
 -- src/desk.rt:61:1
 returns : tie.Need-returns
-returns c = ?
+returns c = stepped-by _ _ _ (c .before .before .before .before .before .before .before .before .before .before .before .before .before .read .ensures) (c .before .before .before .before .before .before .before .before .before .before .to-front .ensures) (c .before .before .before .before .before .before .to-rom .ensures) (c .before .before .to-script .ensures)
 
 pub step-spec : {M : Type 1} → statement M
 step-spec =

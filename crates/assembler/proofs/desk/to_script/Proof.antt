@@ -1,3 +1,7 @@
+use Rattle.append.proofs.Laws.{puts-none}
+use borrow.Author.Tests.{ne-eqb}
+use mathlib.Core.Path.{sym}
+use Rattle.assembler.specs.Desk.{scriptOf}
 use borrow.Author.Needs.{needs}
 use Rattle.assembler.proofs.desk.to_script.Statement.{statement}
 use Rattle.assembler.proofs.desk.to_script.Tie as tie
@@ -19,11 +23,13 @@ same-length c = search needs
 
 -- src/desk.rt:55:9
 returns : tie.Need-returns
-returns c = ?
+unfolding scriptOf
+returns c = rw (c .before .before .before .before .before .if1 .taken) (c .before .before .put .ensures)
 
 -- src/desk.rt:50:1
 returns-2 : tie.Need-returns-2
-returns-2 c = ?
+unfolding scriptOf
+returns-2 c = rw (ne-eqb _ _ (c .if1 .left)) (sym (puts-none _))
 
 pub to-script-spec : {M : Type 1} → statement M
 to-script-spec =

@@ -1,0 +1,93 @@
+// The programs assemble and list: read, call, write. What is wrong goes to standard error in one line, and nothing to standard output.
+pub mod message;
+pub mod name;
+pub mod spot;
+
+use assembler::assemble::assemble_text;
+use benchfile::check::file_check;
+use benchfile::part::part;
+use lister::list::list_file;
+use libc::STDERR_FILENO;
+use libc::STDIN_FILENO;
+use libc::STDOUT_FILENO;
+use message::report;
+use name::name_in;
+use reader::text::name_at;
+
+// A read that fails answers less than 0, and the end of a file 0.
+fn readable(fd: i32) -> bool {
+    let mut more = [0u8; 1];
+    libc::read(fd, &mut more) >= 0
+}
+
+// The ROM file in `rom`, its length as the answer; a file over 65,536 bytes makes no bench. False where it cannot be read.
+fn load(name: &[u8], rom: &mut [u8], n: &mut usize) -> bool {
+    let fd = os::open_read(name);
+    if fd < 0 {
+        return false;
+    }
+    *n = io::read_full(fd, rom);
+    readable(fd)
+}
+
+// The bench file of a text, and the bytes of its ROM file.
+fn assembled(text: &[u8], rom: &[u8]) {
+    let mut out = [0u8; 65537];
+    let n = assemble_text(&mut out, text, rom);
+    if n == 0 {
+        report(text);
+        return;
+    }
+    if !io::write_all(STDOUT_FILENO, part(&out, 0, n)) {
+        os::fail(b"assemble: standard output");
+    }
+}
+
+fn with_rom(text: &[u8]) {
+    let name = name_in(text, name_at(text));
+    let mut rom = [0u8; 65537];
+    let mut n = 0;
+    if name.len() != 0 {
+        if !load(name, &mut rom, &mut n) {
+            os::fail(name);
+            return;
+        }
+    }
+    assembled(text, part(&rom, 0, n));
+}
+
+pub fn assemble() {
+    let mut text = [0u8; 524289];
+    let n = io::read_full(STDIN_FILENO, &mut text);
+    if !readable(STDIN_FILENO) {
+        os::fail(b"assemble: standard input");
+        return;
+    }
+    if n == 524289 {
+        io::write_all(STDERR_FILENO, b"assemble: the text is longer than 524288 bytes\n");
+        return;
+    }
+    with_rom(&text[..n]);
+}
+
+fn listed(file: &[u8]) {
+    if file_check(file) != 0 {
+        io::write_all(STDERR_FILENO, b"list: standard input is no bench file\n");
+        return;
+    }
+    let mut out = [0u8; 327680];
+    let n = list_file(&mut out, file);
+    if !io::write_all(STDOUT_FILENO, part(&out, 0, n)) {
+        os::fail(b"list: standard output");
+    }
+}
+
+pub fn list() {
+    let mut file = [0u8; 65537];
+    let n = io::read_full(STDIN_FILENO, &mut file);
+    if !readable(STDIN_FILENO) {
+        os::fail(b"list: standard input");
+        return;
+    }
+    listed(&file[..n]);
+}

@@ -20,16 +20,6 @@ fn readable(fd: i32) -> bool {
     libc::read(fd, &mut more) >= 0
 }
 
-// The ROM file in `rom`, its length as the answer; a file over 65,536 bytes makes no bench. False where it cannot be read.
-fn load(name: &[u8], rom: &mut [u8], n: &mut usize) -> bool {
-    let fd = os::open_read(name);
-    if fd < 0 {
-        return false;
-    }
-    *n = io::read_full(fd, rom);
-    readable(fd)
-}
-
 // The bench file of a text, and the bytes of its ROM file.
 fn assembled(text: &[u8], rom: &[u8]) {
     let mut out = [0u8; 65537];
@@ -43,17 +33,29 @@ fn assembled(text: &[u8], rom: &[u8]) {
     }
 }
 
+// A ROM file over 65,536 bytes makes no bench.
+fn with_file(text: &[u8], name: &[u8]) {
+    let fd = os::open_read(name);
+    if fd < 0 {
+        os::fail(name);
+        return;
+    }
+    let mut rom = [0u8; 65537];
+    let n = io::read_full(fd, &mut rom);
+    if !readable(fd) {
+        os::fail(name);
+        return;
+    }
+    assembled(text, &rom[..n]);
+}
+
 fn with_rom(text: &[u8]) {
     let name = name_in(text, name_at(text));
-    let mut rom = [0u8; 65537];
-    let mut n = 0;
-    if name.len() != 0 {
-        if !load(name, &mut rom, &mut n) {
-            os::fail(name);
-            return;
-        }
+    if name.len() == 0 {
+        assembled(text, name);
+    } else {
+        with_file(text, name);
     }
-    assembled(text, part(&rom, 0, n));
 }
 
 pub fn assemble() {

@@ -1,7 +1,7 @@
 // What was expected, in words.
 use append::put;
 use benchfile::part::part;
-use crate::spot::spot;
+use crate::spot::spot_of;
 use io::decimal;
 use libc::STDERR_FILENO;
 use reader::draft::Draft;
@@ -38,7 +38,8 @@ fn number_expected(out: &mut [u8], at: usize, state: u8) -> usize {
 }
 
 fn expected(out: &mut [u8], at: usize, d: Draft) -> usize {
-    match d.state {
+    let state = d.state;
+    match state {
         0 => line_expected(out, at, d.phase),
         2 => put(out, at, b"event, line, timer or the line's end"),
         9 => put(out, at, b"on or off"),
@@ -47,14 +48,14 @@ fn expected(out: &mut [u8], at: usize, d: Draft) -> usize {
         14 => put(out, at, b"a file name"),
         18 => put(out, at, b"the line's end"),
         19 => put(out, at, b"a byte from $00 to $FF, or the line's end"),
-        _ => number_expected(out, at, d.state),
+        _ => number_expected(out, at, state),
     }
 }
 
 fn number(out: &mut [u8], at: usize, n: u64) -> usize {
     let mut digits = [0u8; 20];
     let k = decimal(n, &mut digits);
-    put(out, at, part(&digits, 0, k))
+    put(out, at, &digits[..k])
 }
 
 // The word itself, in quotes; of a long one its first 64 characters.
@@ -90,7 +91,7 @@ fn found(out: &mut [u8], at: usize, text: &[u8], from: usize) -> usize {
 // One line on standard error: the line, the word, what was expected.
 pub fn report(text: &[u8]) {
     let upto = part(text, 0, fault(text));
-    let p = spot(upto);
+    let p = spot_of(upto);
     let mut out = [0u8; 256];
     let a = put(&mut out, 0, b"assemble: line ");
     let b = number(&mut out, a, p.line);

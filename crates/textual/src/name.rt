@@ -31,7 +31,7 @@ fn passed(p: Span, s: u8, i: usize, next: usize) -> Span {
     q
 }
 
-fn span(s: &[u8]) -> Span {
+fn span_of(s: &[u8]) -> Span {
     let mut p = Span {
         from: 0,
         to: 0,
@@ -50,7 +50,7 @@ fn span(s: &[u8]) -> Span {
 // Empty where no name stands.
 pub fn name_in(text: &[u8], at: usize) -> &[u8] {
     let rest = part(text, at, text.len());
-    let p = span(rest);
+    let p = span_of(rest);
     let upto = part(rest, 0, p.to);
     part(upto, p.from, upto.len())
 }

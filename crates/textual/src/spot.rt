@@ -23,7 +23,7 @@ fn passed(p: Spot, s: u8, next: usize) -> Spot {
 }
 
 // The place behind the last character of `text`.
-pub fn spot(text: &[u8]) -> Spot {
+pub fn spot_of(text: &[u8]) -> Spot {
     let mut p = Spot { line: 1, from: 0 };
     let mut i = 0;
     while i < text.len() {

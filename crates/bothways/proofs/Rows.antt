@@ -173,9 +173,10 @@ module _ (b l h : ℕ) (lb : b < 256) (ll : l < 256) (lh : h < 256) where
   answer-space =
       let z : 0 ≤ h * 256 + l = omega arith in
       let m : h * 256 + l ≤ 65535 = omega arith in
+      let q : (h * 256 + l) / 256 ≡ h = omega arith in
       let u : (h * 256 + l) % 256 ≡ l = omega arith in
-      let v : (h * 256 + l) / 256 % 256 ≡ h = omega arith in
-      rw (le-leb 0 (h * 256 + l) z, le-leb (h * 256 + l) 65535 m, u, v)
+      let v : h % 256 ≡ h = omega arith in
+      rw (le-leb 0 (h * 256 + l) z, le-leb (h * 256 + l) 65535 m, u, q, v)
 
   answer-middle : (t : List ℕ) → reads (reader (word 3 (h * 256 + l) 0) (draft 4 8 6 0 0 0 0 0)) (32 ∷ 61 ∷ 32 ∷ 36 ∷ t)
       ≡ reads (reader (word 2 0 0) (draft 4 5 6 0 l h 0 0)) t

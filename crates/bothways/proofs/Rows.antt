@@ -32,7 +32,7 @@ abbrev pub before : ℕ → ℕ → ℕ → ℕ → ℕ → ℕ → ℕ → Read
 before p k x₁ x₂ x₃ x₄ e = reader (blankWord 0) (draft p 0 k x₁ x₂ x₃ x₄ e)
 
 -- a word of the line is expected
-abbrev at : ℕ → ℕ → ℕ → ℕ → ℕ → ℕ → Reader
+abbrev pub at : ℕ → ℕ → ℕ → ℕ → ℕ → ℕ → Reader
 at s k x₁ x₂ x₃ x₄ = reader (blankWord 0) (draft 4 s k x₁ x₂ x₃ x₄ 0)
 
 -- a line starts anew whatever the line before completed
@@ -41,7 +41,7 @@ module _ (p k x₁ x₂ x₃ x₄ e : ℕ) (ok : eqb e 9 ≡ false) (c : ℕ) (t
   unfolding readOf
   quieted = rw ok
 
-  anew : reads (before p k x₁ x₂ x₃ x₄ e) (c ∷ t) ≡ reads (before p k x₁ x₂ x₃ x₄ 0) (c ∷ t)
+  pub anew : reads (before p k x₁ x₂ x₃ x₄ e) (c ∷ t) ≡ reads (before p k x₁ x₂ x₃ x₄ 0) (c ∷ t)
   unfolding reads
   anew = ap (λ (r : Reader). reads r t) quieted
 
@@ -66,13 +66,6 @@ module _ (k x₁ x₂ x₃ x₄ : ℕ) (t : List ℕ) where
   answer-word p fill = refl
   answer-word p rom = refl
   answer-word p rows = refl
-
-  -- `back `
-  back-word : (p : ℕ) → Open p → reads (before p k x₁ x₂ x₃ x₄ 0) (98 ∷ 97 ∷ 99 ∷ 107 ∷ 32 ∷ t) ≡ reads (at 15 7 0 0 0 0) t
-  unfolding reads readOf stepOf plainOf letterOf signOf digitOf spacedOf shutOf takenOf namedOf keywordOf mayOf worthOf
-  back-word p fill = refl
-  back-word p rom = refl
-  back-word p rows = refl
 
 -- `$` and a bank, a colon, an address
 module _ (s k b l h : ℕ) (t : List ℕ) (lb : b < 256) (ll : l < 256) (lh : h < 256) where

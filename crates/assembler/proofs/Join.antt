@@ -60,7 +60,7 @@ unfolding gathered
 gathered-by file f o s text e p q =
     q
     ∙ ap (λ (x : State). stepped file x 10)
-      (p ∙ ap (λ (x : Reader). runs file (made x (sheet f 0) (sheet o 0) (sheet s 0)) text) e)
+    (p ∙ ap (λ (x : Reader). runs file (made x (sheet f 0) (sheet o 0) (sheet s 0)) text) e)
 
 -- what is left of a text that says s
 abbrev left : List ℕ → State → Sheet

@@ -3,12 +3,12 @@ ghost use mathlib.Core.Path.{_≡_};
 ghost use denote.Ref.{now};
 ghost use Rattle.append.specs.Sheet.{sheet, puts};
 ghost use Rattle.assembler.specs.Assemble.{readyOf, checked, finished, assembled};
+use crate::bind::bind;
+use crate::desk::gather;
 use append::put;
 use benchfile::check::file_check;
 use benchfile::part::part;
 use reader::draft::Draft;
-use crate::bind::bind;
-use crate::desk::gather;
 
 // A text that did not fail and has settings and a fill.
 pub fn ready(d: Draft) -> bool

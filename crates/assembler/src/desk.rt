@@ -58,14 +58,7 @@ fn to_script(out: &mut [u8], at: usize, d: Draft) -> usize
 }
 
 // One character of the text.
-fn step(
-    k: Desk,
-    front: &mut [u8],
-    rom: &mut [u8],
-    script: &mut [u8],
-    file: &[u8],
-    c: u8,
-) -> Desk
+fn step(k: Desk, front: &mut [u8], rom: &mut [u8], script: &mut [u8], file: &[u8], c: u8) -> Desk
     ensures { λ r. ⌜ state r (now (front .exit)) (now (rom .exit)) (now (script .exit))
         ≡ stepped (now (file .entry)) (state k (now (front .entry)) (now (rom .entry)) (now (script .entry))) c ⌝ }
 {
@@ -106,13 +99,7 @@ fn run(
 }
 
 // The whole text, and a line feed behind it, so that its last line ends.
-pub fn gather(
-    front: &mut [u8],
-    rom: &mut [u8],
-    script: &mut [u8],
-    file: &[u8],
-    text: &[u8],
-) -> Desk
+pub fn gather(front: &mut [u8], rom: &mut [u8], script: &mut [u8], file: &[u8], text: &[u8]) -> Desk
     ensures { λ r. ⌜ state r (now (front .exit)) (now (rom .exit)) (now (script .exit))
         ≡ gathered (now (file .entry)) (opened (now (front .entry)) (now (rom .entry)) (now (script .entry))) (now (text .entry)) ⌝ }
 {

@@ -40,7 +40,6 @@ module _ (k x₁ x₂ x₃ x₄ : ℕ) (t : List ℕ) where
   plug-word p rom = refl
   plug-word p rows = refl
 
-
 -- the end of a back row
 back-end : (n : ℕ) → 1 ≤ n → n < 65536 → reads (reader (word 6 n 0) (draft 4 15 7 0 0 0 0 0)) (10 ∷ []) ≡ before 4 7 (n % 256) (n / 256) 0 0 3
 unfolding reads readOf stepOf signOf shutOf takenOf numberOf fitsOf worthOf lineOf closingOf

@@ -95,11 +95,11 @@ module _ (p s k x₁ x₂ x₃ x₄ : ℕ) where
 
     choose : (a b c d : Bool) → ltb n 10 ≡ a → ltb n 100 ≡ b → ltb n 1000 ≡ c → ltb n 10000 ≡ d
         → Back
-          (pick a (placeOf n 1 ∷ [])
-          (pick b (placeOf n 10 ∷ placeOf n 1 ∷ [])
-          (pick c (placeOf n 100 ∷ placeOf n 10 ∷ placeOf n 1 ∷ [])
-          (pick d (placeOf n 1000 ∷ placeOf n 100 ∷ placeOf n 10 ∷ placeOf n 1 ∷ [])
-          (placeOf n 10000 ∷ placeOf n 1000 ∷ placeOf n 100 ∷ placeOf n 10 ∷ placeOf n 1 ∷ [])))))
+        (pick a (placeOf n 1 ∷ [])
+        (pick b (placeOf n 10 ∷ placeOf n 1 ∷ [])
+        (pick c (placeOf n 100 ∷ placeOf n 10 ∷ placeOf n 1 ∷ [])
+        (pick d (placeOf n 1000 ∷ placeOf n 100 ∷ placeOf n 10 ∷ placeOf n 1 ∷ [])
+        (placeOf n 10000 ∷ placeOf n 1000 ∷ placeOf n 100 ∷ placeOf n 10 ∷ placeOf n 1 ∷ [])))))
     choose true b c d e f g h = one-digit (ltb-true n 10 e)
     choose false true c d e f g h = two-digits (ltb-true n 100 f)
     choose false false true d e f g h = three-digits (ltb-true n 1000 g)

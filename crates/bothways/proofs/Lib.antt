@@ -3,3 +3,4 @@ pub mod Rows
 pub mod Decimal
 pub mod Counts
 pub mod Cycles
+pub mod Row

@@ -3,10 +3,10 @@ ghost use mathlib.Core.Path.{_≡_};
 ghost use denote.Ref.{now};
 ghost use Rattle.append.specs.Sheet.{sheet, puts};
 ghost use Rattle.lister.specs.Body.{byteText, bytesText, lineText, linesText};
+use crate::digits::glyph;
 use append::push_byte;
 use append::put;
 use benchfile::part::part;
-use crate::digits::glyph;
 
 // ` $5A`
 fn byte_text(x: u8) -> [u8; 4]

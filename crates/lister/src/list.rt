@@ -3,14 +3,14 @@ ghost use mathlib.Core.Path.{_≡_};
 ghost use denote.Ref.{now};
 ghost use Rattle.append.specs.Sheet.{sheet, puts};
 ghost use Rattle.lister.specs.List.{settingsText, scriptText, listText};
+use crate::body::lines;
+use crate::digits::decimal;
+use crate::row::write_row;
 use append::push_byte;
 use append::put;
 use benchfile::part::part;
 use benchfile::section::section_look;
 use benchfile::word::two;
-use crate::body::lines;
-use crate::digits::decimal;
-use crate::row::write_row;
 
 // `bitcycles 264`
 fn settings(out: &mut [u8], at: usize, n: u16) -> usize

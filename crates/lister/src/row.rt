@@ -3,39 +3,104 @@ ghost use mathlib.Core.Path.{_≡_};
 ghost use denote.Ref.{now};
 ghost use Rattle.append.specs.Sheet.{sheet, puts};
 ghost use Rattle.lister.specs.Row.{readText, writeText, answerText, wordText, eventText, flagsText, cyclesText, padText, plugText, backText, rowText};
+use crate::digits::decimal;
+use crate::digits::glyph;
 use append::push_byte;
 use append::put;
 use benchfile::word::byte;
 use benchfile::word::two;
-use crate::digits::decimal;
-use crate::digits::glyph;
 
 // `read $00:4302`
 fn read_text(bank: u8, low: u8, high: u8) -> [u8; 14]
     ensures { λ r. ⌜ r ≡ readText bank low high ⌝ }
 {
-    [b'r', b'e', b'a', b'd', b' ', b'$', glyph(bank / 16), glyph(bank), b':', glyph(high / 16), glyph(high), glyph(low / 16), glyph(low), b'\n']
+    [
+        b'r',
+        b'e',
+        b'a',
+        b'd',
+        b' ',
+        b'$',
+        glyph(bank / 16),
+        glyph(bank),
+        b':',
+        glyph(high / 16),
+        glyph(high),
+        glyph(low / 16),
+        glyph(low),
+        b'\n',
+    ]
 }
 
 // `write $00:4302 = $10`
 fn write_text(bank: u8, low: u8, high: u8, byte: u8) -> [u8; 21]
     ensures { λ r. ⌜ r ≡ writeText bank low high byte ⌝ }
 {
-    [b'w', b'r', b'i', b't', b'e', b' ', b'$', glyph(bank / 16), glyph(bank), b':', glyph(high / 16), glyph(high), glyph(low / 16), glyph(low), b' ', b'=', b' ', b'$', glyph(byte / 16), glyph(byte), b'\n']
+    [
+        b'w',
+        b'r',
+        b'i',
+        b't',
+        b'e',
+        b' ',
+        b'$',
+        glyph(bank / 16),
+        glyph(bank),
+        b':',
+        glyph(high / 16),
+        glyph(high),
+        glyph(low / 16),
+        glyph(low),
+        b' ',
+        b'=',
+        b' ',
+        b'$',
+        glyph(byte / 16),
+        glyph(byte),
+        b'\n',
+    ]
 }
 
 // `answer $2134 = $5A`
 fn answer_text(low: u8, high: u8, byte: u8) -> [u8; 19]
     ensures { λ r. ⌜ r ≡ answerText low high byte ⌝ }
 {
-    [b'a', b'n', b's', b'w', b'e', b'r', b' ', b'$', glyph(high / 16), glyph(high), glyph(low / 16), glyph(low), b' ', b'=', b' ', b'$', glyph(byte / 16), glyph(byte), b'\n']
+    [
+        b'a',
+        b'n',
+        b's',
+        b'w',
+        b'e',
+        b'r',
+        b' ',
+        b'$',
+        glyph(high / 16),
+        glyph(high),
+        glyph(low / 16),
+        glyph(low),
+        b' ',
+        b'=',
+        b' ',
+        b'$',
+        glyph(byte / 16),
+        glyph(byte),
+        b'\n',
+    ]
 }
 
 // ` $8000`, the end of a pad's line
 fn word_text(low: u8, high: u8) -> [u8; 7]
     ensures { λ r. ⌜ r ≡ wordText low high ⌝ }
 {
-    [b' ', b'$', glyph(high / 16), glyph(high), glyph(low / 16), glyph(low), b'\n']
+    [
+        b' ',
+        b'$',
+        glyph(high / 16),
+        glyph(high),
+        glyph(low / 16),
+        glyph(low),
+        b'\n',
+    ]
 }
 
 // An event that is not 0.

@@ -88,11 +88,11 @@ unfoldable pub numberOf : Draft → ℕ → Draft
 numberOf d v =
     pick (fitsOf (d .state) v)
     (draft (d .phase) (nextOf (d .state)) (d .kind)
-      (byte1Of (d .state) (d .b1) (v % 256) (v / 65536 % 256))
-      (byte2Of (d .state) (d .b2) (v % 256) (v / 256 % 256))
-      (byte3Of (d .state) (d .b3) (v % 256) (v / 256 % 256))
-      (byte4Of (d .state) (d .b4) (v % 256))
-      (emitOf (d .state)))
+    (byte1Of (d .state) (d .b1) (v % 256) (v / 65536 % 256))
+    (byte2Of (d .state) (d .b2) (v % 256) (v / 256 % 256))
+    (byte3Of (d .state) (d .b3) (v % 256) (v / 256 % 256))
+    (byte4Of (d .state) (d .b4) (v % 256))
+    (emitOf (d .state)))
     (failedOf d)
 
 -- letters where they are expected

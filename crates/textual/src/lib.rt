@@ -6,10 +6,10 @@ pub mod spot;
 use assembler::assemble::assemble_text;
 use benchfile::check::file_check;
 use benchfile::part::part;
-use lister::list::list_file;
 use libc::STDERR_FILENO;
 use libc::STDIN_FILENO;
 use libc::STDOUT_FILENO;
+use lister::list::list_file;
 use message::report;
 use name::name_in;
 use reader::text::name_at;
@@ -66,7 +66,10 @@ pub fn assemble() {
         return;
     }
     if n == 524289 {
-        io::write_all(STDERR_FILENO, b"assemble: the text is longer than 524288 bytes\n");
+        io::write_all(
+            STDERR_FILENO,
+            b"assemble: the text is longer than 524288 bytes\n",
+        );
         return;
     }
     with_rom(&text[..n]);

@@ -1,7 +1,7 @@
 // What was expected, in words.
+use crate::spot::spot_of;
 use append::put;
 use benchfile::part::part;
-use crate::spot::spot_of;
 use io::decimal;
 use libc::STDERR_FILENO;
 use reader::draft::Draft;
@@ -14,9 +14,21 @@ fn line_expected(out: &mut [u8], at: usize, phase: u8) -> usize {
     match phase {
         0 => put(out, at, b"bitcycles"),
         1 => put(out, at, b"fill"),
-        2 => put(out, at, b"fill, rom or a row: cycles, read, write, pad, plug, answer, back"),
-        3 => put(out, at, b"rom or a row: cycles, read, write, pad, plug, answer, back"),
-        _ => put(out, at, b"a row: cycles, read, write, pad, plug, answer, back"),
+        2 => put(
+            out,
+            at,
+            b"fill, rom or a row: cycles, read, write, pad, plug, answer, back",
+        ),
+        3 => put(
+            out,
+            at,
+            b"rom or a row: cycles, read, write, pad, plug, answer, back",
+        ),
+        _ => put(
+            out,
+            at,
+            b"a row: cycles, read, write, pad, plug, answer, back",
+        ),
     }
 }
 
@@ -85,7 +97,11 @@ fn found(out: &mut [u8], at: usize, text: &[u8], from: usize) -> usize {
         let a = put(out, at, b"the text ends: expected ");
         return line_expected(out, a, e.phase);
     }
-    put(out, at, b"too long: a fill has at most 4096 bytes, a bench file 65536")
+    put(
+        out,
+        at,
+        b"too long: a fill has at most 4096 bytes, a bench file 65536",
+    )
 }
 
 // One line on standard error: the line, the word, what was expected.

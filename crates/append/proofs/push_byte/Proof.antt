@@ -3,26 +3,19 @@ use mathlib.Core.Path.{sym}
 use borrow.Author.Needs.{needs}
 use Rattle.append.proofs.push_byte.Statement.{statement}
 use Rattle.append.proofs.push_byte.Tie as tie
-use Rattle.append.proofs.push_byte.Reads as reads
-use Rattle.append.proofs.push_byte.Lts as lts
 
--- src/lib.rt:13:9
 slice-write-out : tie.Need-slice-write-out
 slice-write-out c = search needs
 
--- src/lib.rt:14:16
 add-result : tie.Need-add-result
 add-result c = search needs
 
--- src/lib.rt:14:9
 same-length : tie.Need-same-length
 same-length c = search needs
 
--- src/lib.rt:14:9
 returns : tie.Need-returns
 returns c = sym (push-room (c .before .args .out .now) (c .before .args .at) (c .before .args .byte) (c .if1 .taken))
 
--- src/lib.rt:9:1
 returns-2 : tie.Need-returns-2
 returns-2 c = sym (push-full (c .before .args .out .now) (c .before .args .at) (c .before .args .byte) (c .if1 .left))
 

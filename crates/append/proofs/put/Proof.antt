@@ -7,9 +7,6 @@ use Prim.Native.Nat.{_-_, _≤_}
 use mathlib.Core.Path.{_≡_, refl, sym, ap, _∙_}
 use Rattle.append.proofs.put.Statement.{statement}
 use Rattle.append.proofs.put.Tie as tie
-use Rattle.append.proofs.put.Reads as reads
-use Rattle.append.proofs.put.Lts as lts
-use Rattle.append.proofs.push_byte.Reads as push-byte-reads
 
 abbrev Inv-loop : tie.InvT-loop
 Inv-loop out₀ at src to₀ i₀ out to i =
@@ -18,35 +15,27 @@ Inv-loop out₀ at src to₀ i₀ out to i =
 abbrev μ-loop : tie.MeasureT-loop
 μ-loop out₀ at src to₀ i₀ out to i = length src - i
 
--- src/lib.rt:25:5
 loop-holds : tie.Need-loop-holds Inv-loop μ-loop
 loop-holds c = (refl, refl)
 
--- src/lib.rt:26:20
 shared-slice-read-byte : tie.Need-shared-slice-read-byte Inv-loop μ-loop
 shared-slice-read-byte c = omega arith
 
--- src/lib.rt:27:9
 push-byte-requires : tie.Need-push-byte-requires Inv-loop μ-loop
 push-byte-requires c κs = tt
 
--- src/lib.rt:28:9
 add-i : tie.Need-add-i Inv-loop μ-loop
 add-i c = omega arith
 
--- src/lib.rt:25:5
 loop-less : tie.Need-loop-less Inv-loop μ-loop
 loop-less c = omega arith
 
--- src/lib.rt:25:5
 loop-again : tie.Need-loop-again Inv-loop μ-loop
 loop-again c = ((c .before .before .push-byte .kept .0) ∙ (c .before .before .before .before .before .before .loop .inv .0), (c .before .before .before .before .before .before .loop .inv .1) ∙ puts-next _ _ _ (c .before .before .before .before .before .loop-test .taken) (c .before .before .push-byte .ensures))
 
--- src/lib.rt:20:1
 same-length : tie.Need-same-length Inv-loop μ-loop
 same-length c = (c .before .loop .inv .0)
 
--- src/lib.rt:20:1
 returns : tie.Need-returns Inv-loop μ-loop
 returns c = sym ((c .before .loop .inv .1) ∙ puts-end _ _ _ (c .loop-test .left))
 

@@ -2,70 +2,49 @@ use Rattle.assembler.proofs.Join.{said-by, assembled-ready, assembled-n
 use borrow.Author.Needs.{needs}
 use Rattle.assembler.proofs.assemble.assemble_text.Statement.{statement}
 use Rattle.assembler.proofs.assemble.assemble_text.Tie as tie
-use Rattle.assembler.proofs.assemble.assemble_text.Reads as reads
-use Rattle.assembler.proofs.assemble.assemble_text.Lts as lts
-use Rattle.assembler.proofs.assemble.finish.Reads as finish-reads
-use Rattle.assembler.proofs.assemble.ready.Reads as ready-reads
-use Rattle.assembler.proofs.desk.gather.Reads as gather-reads
-use Rattle.benchfile.proofs.part.part.Reads as part-reads
 
--- src/assemble.rt:45:20
 slice-aggregate-gather : tie.Need-slice-aggregate-gather
 slice-aggregate-gather c = search needs
 
--- src/assemble.rt:45:32
 slice-aggregate-gather-2 : tie.Need-slice-aggregate-gather-2
 slice-aggregate-gather-2 c = search needs
 
--- src/assemble.rt:45:42
 slice-aggregate-gather-3 : tie.Need-slice-aggregate-gather-3
 slice-aggregate-gather-3 c = search needs
 
--- src/assemble.rt:45:9
 gather-requires : tie.Need-gather-requires
 gather-requires c κs = search needs
 
--- src/assemble.rt:47:8
 ready-requires : tie.Need-ready-requires
 ready-requires c κs = search needs
 
--- src/assemble.rt:48:22
 slice-aggregate-part : tie.Need-slice-aggregate-part
 slice-aggregate-part c = search needs
 
--- src/assemble.rt:48:13
 part-requires : tie.Need-part-requires
 part-requires c κs = search needs
 
--- src/assemble.rt:49:22
 slice-aggregate-part-2 : tie.Need-slice-aggregate-part-2
 slice-aggregate-part-2 c = search needs
 
--- src/assemble.rt:49:13
 part-requires-2 : tie.Need-part-requires-2
 part-requires-2 c κs = search needs
 
--- src/assemble.rt:50:22
 slice-aggregate-part-3 : tie.Need-slice-aggregate-part-3
 slice-aggregate-part-3 c = search needs
 
--- src/assemble.rt:50:13
 part-requires-3 : tie.Need-part-requires-3
 part-requires-3 c κs = search needs
 
--- src/assemble.rt:51:9
 finish-requires : tie.Need-finish-requires
 finish-requires c κs = search needs
 
--- src/assemble.rt:51:9
 same-length : tie.Need-same-length
 same-length c = search needs
 
--- src/assemble.rt:51:9
 returns : tie.Need-returns
 returns c = assembled-ready _ _ _ _ (said-by _ _ (c .before .before .before .before .before .before .before .before .before .before .before .before .before .before .before .before .gather .ensures)) (c .before .before .before .before .before .before .before .before .before .before .before .ready .ensures) (c .before .before .before .before .before .before .before .before .before .before .if1 .taken) (c .before .before .before .before .before .before .before .before .part .ensures) (c .before .before .before .before .before .before .part2 .ensures) (c .before .before .before .before .part3 .ensures) (c .before .before .finish .ensures)
 
--- src/assemble.rt:39:1
 returns-2 : tie.Need-returns-2
 returns-2 c = assembled-not _ _ _ _ (said-by _ _ (c .before .before .before .before .before .before .gather .ensures)) (c .before .ready .ensures) (c .if1 .left)
 

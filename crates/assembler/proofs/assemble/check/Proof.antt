@@ -4,25 +4,17 @@ use Rattle.assembler.specs.Assemble.{checked}
 use borrow.Author.Needs.{needs}
 use Rattle.assembler.proofs.assemble.check.Statement.{statement}
 use Rattle.assembler.proofs.assemble.check.Tie as tie
-use Rattle.assembler.proofs.assemble.check.Reads as reads
-use Rattle.assembler.proofs.assemble.check.Lts as lts
-use Rattle.benchfile.proofs.check.file_check.Reads as file-check-reads
-use Rattle.benchfile.proofs.part.part.Reads as part-reads
 
--- src/assemble.rt:24:9
 part-requires : tie.Need-part-requires
 part-requires c κs = search needs
 
--- src/assemble.rt:25:9
 file-check-requires : tie.Need-file-check-requires
 file-check-requires c κs = search needs
 
--- src/assemble.rt:21:1
 returns : tie.Need-returns
 unfolding checked
 returns c = simp (eq-eqb _ _ (rw ((c .before .before .part .ensures)) at (sym (c .before .file-check .ensures) ∙ (c .if1 .taken))))
 
--- src/assemble.rt:21:1
 returns-2 : tie.Need-returns-2
 unfolding checked
 returns-2 c = simp (ne-eqb _ _ (rw ((c .before .before .part .ensures)) at (rw ((c .before .file-check .ensures)) at (c .if1 .left))))

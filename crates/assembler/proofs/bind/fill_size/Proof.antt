@@ -3,20 +3,14 @@ use Rattle.assembler.specs.Bind.{fillSize}
 use borrow.Author.Needs.{needs}
 use Rattle.assembler.proofs.bind.fill_size.Statement.{statement}
 use Rattle.assembler.proofs.bind.fill_size.Tie as tie
-use Rattle.assembler.proofs.bind.fill_size.Reads as reads
-use Rattle.assembler.proofs.bind.fill_size.Lts as lts
-use Rattle.assembler.proofs.bind.size.Reads as size-reads
 
--- src/bind.rt:20:27
 size-requires : tie.Need-size-requires
 size-requires c κs = search needs
 
--- src/bind.rt:17:1
 returns : tie.Need-returns
 unfolding fillSize
 returns c = simp (lt-ltb _ _ (c .if1 .taken))
 
--- src/bind.rt:17:1
 returns-2 : tie.Need-returns-2
 unfolding fillSize
 returns-2 c = rw (le-ltb _ _ (c .before .if1 .left)) (c .size .ensures)

@@ -3,19 +3,14 @@ use Rattle.assembler.specs.Bind.{sizeOf}
 use borrow.Author.Needs.{needs}
 use Rattle.assembler.proofs.bind.size.Statement.{statement}
 use Rattle.assembler.proofs.bind.size.Tie as tie
-use Rattle.assembler.proofs.bind.size.Reads as reads
-use Rattle.assembler.proofs.bind.size.Lts as lts
 
--- src/bind.rt:13:20
 cast-result : tie.Need-cast-result
 cast-result c = search needs
 
--- src/bind.rt:10:1
 returns : tie.Need-returns
 unfolding sizeOf
 returns c = simp (lt-ltb _ _ (c .if1 .taken))
 
--- src/bind.rt:10:1
 returns-2 : tie.Need-returns-2
 unfolding sizeOf
 returns-2 c = simp (le-ltb _ _ (c .if1 .left))

@@ -5,45 +5,33 @@ use Rattle.assembler.specs.Desk.{frontOf}
 use borrow.Author.Needs.{needs}
 use Rattle.assembler.proofs.desk.to_front.Statement.{statement}
 use Rattle.assembler.proofs.desk.to_front.Tie as tie
-use Rattle.assembler.proofs.desk.to_front.Reads as reads
-use Rattle.assembler.proofs.desk.to_front.Lts as lts
-use Rattle.append.proofs.put.Reads as put-reads
 
--- src/desk.rt:26:29
 slice-aggregate-put : tie.Need-slice-aggregate-put
 slice-aggregate-put c = search needs
 
--- src/desk.rt:26:9
 put-requires : tie.Need-put-requires
 put-requires c κs = search needs
 
--- src/desk.rt:26:9
 same-length : tie.Need-same-length
 same-length c = search needs
 
--- src/desk.rt:26:9
 returns : tie.Need-returns
 unfolding frontOf
 returns c = rw (c .before .before .before .before .before .if1 .taken) (c .before .before .put .ensures)
 
--- src/desk.rt:30:29
 slice-aggregate-put-2 : tie.Need-slice-aggregate-put-2
 slice-aggregate-put-2 c = search needs
 
--- src/desk.rt:30:9
 put-requires-2 : tie.Need-put-requires-2
 put-requires-2 c κs = search needs
 
--- src/desk.rt:30:9
 same-length-2 : tie.Need-same-length-2
 same-length-2 c = search needs
 
--- src/desk.rt:30:9
 returns-2 : tie.Need-returns-2
 unfolding frontOf
 returns-2 c = rw (c .before .before .before .before .before .if2 .taken) (c .before .before .put2 .ensures)
 
--- src/desk.rt:21:1
 returns-3 : tie.Need-returns-3
 unfolding frontOf
 returns-3 c = rw (ne-eqb _ _ (c .before .before .if1 .left), ne-eqb _ _ (c .if2 .left)) (sym (puts-none _))

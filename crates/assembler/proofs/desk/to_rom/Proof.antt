@@ -5,41 +5,30 @@ use Rattle.assembler.specs.Desk.{romOf}
 use borrow.Author.Needs.{needs}
 use Rattle.assembler.proofs.desk.to_rom.Statement.{statement}
 use Rattle.assembler.proofs.desk.to_rom.Tie as tie
-use Rattle.assembler.proofs.desk.to_rom.Reads as reads
-use Rattle.assembler.proofs.desk.to_rom.Lts as lts
-use Rattle.append.proofs.put.Reads as put-reads
 
--- src/desk.rt:40:9
 put-requires : tie.Need-put-requires
 put-requires c κs = search needs
 
--- src/desk.rt:40:9
 same-length : tie.Need-same-length
 same-length c = search needs
 
--- src/desk.rt:40:9
 returns : tie.Need-returns
 unfolding romOf
 returns c = rw (c .before .before .before .before .if1 .taken) (c .before .before .put .ensures)
 
--- src/desk.rt:44:29
 slice-aggregate-put : tie.Need-slice-aggregate-put
 slice-aggregate-put c = search needs
 
--- src/desk.rt:44:9
 put-requires-2 : tie.Need-put-requires-2
 put-requires-2 c κs = search needs
 
--- src/desk.rt:44:9
 same-length-2 : tie.Need-same-length-2
 same-length-2 c = search needs
 
--- src/desk.rt:44:9
 returns-2 : tie.Need-returns-2
 unfolding romOf
 returns-2 c = rw (c .before .before .before .before .before .if2 .taken) (c .before .before .put2 .ensures)
 
--- src/desk.rt:36:1
 returns-3 : tie.Need-returns-3
 unfolding romOf
 returns-3 c = rw (ne-eqb _ _ (c .before .before .if1 .left), ne-eqb _ _ (c .if2 .left)) (sym (puts-none _))

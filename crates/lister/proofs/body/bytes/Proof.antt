@@ -8,10 +8,6 @@ use Prim.Native.Nat.{_-_}
 use mathlib.Core.Path.{_≡_, refl, sym, ap, _∙_}
 use Rattle.lister.proofs.body.bytes.Statement.{statement}
 use Rattle.lister.proofs.body.bytes.Tie as tie
-use Rattle.lister.proofs.body.bytes.Reads as reads
-use Rattle.lister.proofs.body.bytes.Lts as lts
-use Rattle.append.proofs.put.Reads as put-reads
-use Rattle.lister.proofs.body.byte_text.Reads as byte-text-reads
 
 abbrev Inv-loop : tie.InvT-loop
 Inv-loop out₀ at s to₀ i₀ out to i =
@@ -20,43 +16,33 @@ Inv-loop out₀ at s to₀ i₀ out to i =
 abbrev μ-loop : tie.MeasureT-loop
 μ-loop out₀ at s to₀ i₀ out to i = length s - i
 
--- src/body.rt:23:5
 loop-holds : tie.Need-loop-holds Inv-loop μ-loop
 loop-holds c = (refl, refl)
 
--- src/body.rt:24:27
 shared-slice-read-byte-text : tie.Need-shared-slice-read-byte-text Inv-loop μ-loop
 shared-slice-read-byte-text c = omega arith
 
--- src/body.rt:24:17
 byte-text-requires : tie.Need-byte-text-requires Inv-loop μ-loop
 byte-text-requires c κs = tt
 
--- src/body.rt:25:27
 slice-aggregate-put : tie.Need-slice-aggregate-put Inv-loop μ-loop
 slice-aggregate-put c = search needs
 
--- src/body.rt:25:9
 put-requires : tie.Need-put-requires Inv-loop μ-loop
 put-requires c κs = tt
 
--- src/body.rt:26:9
 add-i : tie.Need-add-i Inv-loop μ-loop
 add-i c = omega arith
 
--- src/body.rt:23:5
 loop-less : tie.Need-loop-less Inv-loop μ-loop
 loop-less c = omega arith
 
--- src/body.rt:23:5
 loop-again : tie.Need-loop-again Inv-loop μ-loop
 loop-again c = ((c .before .before .put .kept .0) ∙ (c .before .before .before .before .before .before .before .before .loop .inv .0), (c .before .before .before .before .before .before .before .before .loop .inv .1) ∙ bytes-next _ _ _ (c .before .before .before .before .before .before .before .loop-test .taken) ((c .before .before .put .ensures) ∙ simp ((c .before .before .before .before .before .byte-text .ensures))))
 
--- src/body.rt:18:1
 same-length : tie.Need-same-length Inv-loop μ-loop
 same-length c = (c .before .loop .inv .0)
 
--- src/body.rt:18:1
 returns : tie.Need-returns Inv-loop μ-loop
 returns c = sym ((c .before .loop .inv .1) ∙ bytes-end _ _ _ (c .loop-test .left))
 

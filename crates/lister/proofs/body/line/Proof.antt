@@ -5,33 +5,22 @@ use mathlib.Core.Path.{_≡_, refl, sym, ap, _∙_}
 use borrow.Author.Needs.{needs}
 use Rattle.lister.proofs.body.line.Statement.{statement}
 use Rattle.lister.proofs.body.line.Tie as tie
-use Rattle.lister.proofs.body.line.Reads as reads
-use Rattle.lister.proofs.body.line.Lts as lts
-use Rattle.append.proofs.push_byte.Reads as push-byte-reads
-use Rattle.append.proofs.put.Reads as put-reads
-use Rattle.lister.proofs.body.bytes.Reads as bytes-reads
 
--- src/body.rt:36:9
 returns : tie.Need-returns
 returns c = rw (line-none (c .before .before .before .before .args .word .now) (c .before .before .before .before .args .s .now) (c .if1 .taken)) (sym (puts-none _))
 
--- src/body.rt:38:9
 put-requires : tie.Need-put-requires
 put-requires c κs = search needs
 
--- src/body.rt:39:9
 bytes-requires : tie.Need-bytes-requires
 bytes-requires c κs = search needs
 
--- src/body.rt:40:5
 push-byte-requires : tie.Need-push-byte-requires
 push-byte-requires c κs = search needs
 
--- src/body.rt:32:1
 same-length : tie.Need-same-length
 same-length c = search needs
 
--- src/body.rt:32:1
 returns-2 : tie.Need-returns-2
 returns-2 c = rw (line-some (c .before .before .before .before .before .before .before .before .before .before .before .before .before .before .before .before .args .word .now) (c .before .before .before .before .before .before .before .before .before .before .before .before .before .before .before .before .args .s .now) (c .before .before .before .before .before .before .before .before .before .before .before .before .if1 .left)) (then _ _ _ (c .before .before .before .before .before .before .before .before .before .before .put .ensures) (then _ _ _ (c .before .before .before .before .before .before .bytes .ensures) (last _ _ (c .before .before .push-byte .ensures))))
 

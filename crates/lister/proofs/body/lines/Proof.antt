@@ -8,10 +8,6 @@ use Prim.Native.Nat.{_-_}
 use mathlib.Core.Path.{_≡_, refl, sym, ap, _∙_}
 use Rattle.lister.proofs.body.lines.Statement.{statement}
 use Rattle.lister.proofs.body.lines.Tie as tie
-use Rattle.lister.proofs.body.lines.Reads as reads
-use Rattle.lister.proofs.body.lines.Lts as lts
-use Rattle.benchfile.proofs.part.part.Reads as part-reads
-use Rattle.lister.proofs.body.line.Reads as line-reads
 
 abbrev Inv-loop : tie.InvT-loop
 Inv-loop out₀ at word s n to₀ k₀ out to k =
@@ -20,43 +16,33 @@ Inv-loop out₀ at word s n to₀ k₀ out to k =
 abbrev μ-loop : tie.MeasureT-loop
 μ-loop out₀ at word s n to₀ k₀ out to k = n - k
 
--- src/body.rt:47:13
 add-n : tie.Need-add-n Inv-loop μ-loop
 add-n c = omega arith
 
--- src/body.rt:50:5
 loop-holds : tie.Need-loop-holds Inv-loop μ-loop
 loop-holds c = (refl, lines-start _ _ _ _)
 
--- src/body.rt:51:28
 mul-part : tie.Need-mul-part Inv-loop μ-loop
 mul-part c = omega arith
 
--- src/body.rt:51:13
 part-requires : tie.Need-part-requires Inv-loop μ-loop
 part-requires c κs = tt
 
--- src/body.rt:52:9
 line-requires : tie.Need-line-requires Inv-loop μ-loop
 line-requires c κs = tt
 
--- src/body.rt:53:9
 add-k : tie.Need-add-k Inv-loop μ-loop
 add-k c = omega arith
 
--- src/body.rt:50:5
 loop-less : tie.Need-loop-less Inv-loop μ-loop
 loop-less c = omega arith
 
--- src/body.rt:50:5
 loop-again : tie.Need-loop-again Inv-loop μ-loop
 loop-again c = ((c .before .before .line .kept .0) ∙ (c .before .before .before .before .before .before .loop .inv .0), (c .before .before .before .before .before .before .loop .inv .1) ∙ lines-next _ _ _ _ _ (c .before .before .before .before .before .loop-test .taken) (c .before .before .before .before .part .ensures) (c .before .before .line .ensures))
 
--- src/body.rt:44:1
 same-length : tie.Need-same-length Inv-loop μ-loop
 same-length c = (c .before .loop .inv .0)
 
--- src/body.rt:44:1
 returns : tie.Need-returns Inv-loop μ-loop
 unfolding linesText
 returns c = sym ((c .before .loop .inv .1) ∙ lines-end _ _ _ _ _ (c .loop-test .left))

@@ -4,112 +4,83 @@ use borrow.Author.Tests.{lt-ltb, le-ltb}
 use borrow.Author.Needs.{needs}
 use Rattle.lister.proofs.digits.decimal.Statement.{statement}
 use Rattle.lister.proofs.digits.decimal.Tie as tie
-use Rattle.lister.proofs.digits.decimal.Reads as reads
-use Rattle.lister.proofs.digits.decimal.Lts as lts
-use Rattle.append.proofs.put.Reads as put-reads
-use Rattle.lister.proofs.digits.place.Reads as place-reads
 
--- src/digits.rt:30:9
 place-requires : tie.Need-place-requires
 place-requires c κs = search needs
 
--- src/digits.rt:31:9
 place-requires-2 : tie.Need-place-requires-2
 place-requires-2 c κs = search needs
 
--- src/digits.rt:32:9
 place-requires-3 : tie.Need-place-requires-3
 place-requires-3 c κs = search needs
 
--- src/digits.rt:33:9
 place-requires-4 : tie.Need-place-requires-4
 place-requires-4 c κs = search needs
 
--- src/digits.rt:34:9
 place-requires-5 : tie.Need-place-requires-5
 place-requires-5 c κs = search needs
 
--- src/digits.rt:37:29
 slice-aggregate-put : tie.Need-slice-aggregate-put
 slice-aggregate-put c = search needs
 
--- src/digits.rt:37:9
 put-requires : tie.Need-put-requires
 put-requires c κs = search needs
 
--- src/digits.rt:37:9
 same-length : tie.Need-same-length
 same-length c = search needs
 
--- src/digits.rt:37:9
 returns : tie.Need-returns
 unfolding decimalOf
 returns c = (c .before .before .put .ensures) ∙ simp (lt-ltb _ _ (c .before .before .before .before .before .if1 .taken), (c .before .before .before .before .before .before .place5 .ensures))
 
--- src/digits.rt:41:29
 slice-aggregate-put-2 : tie.Need-slice-aggregate-put-2
 slice-aggregate-put-2 c = search needs
 
--- src/digits.rt:41:9
 put-requires-2 : tie.Need-put-requires-2
 put-requires-2 c κs = search needs
 
--- src/digits.rt:41:9
 same-length-2 : tie.Need-same-length-2
 same-length-2 c = search needs
 
--- src/digits.rt:41:9
 returns-2 : tie.Need-returns-2
 unfolding decimalOf
 returns-2 c = (c .before .before .put2 .ensures) ∙ simp (lt-ltb _ _ (c .before .before .before .before .before .if2 .taken), le-ltb _ _ (c .before .before .before .before .before .before .if1 .left), (c .before .before .before .before .before .before .before .place5 .ensures), (c .before .before .before .before .before .before .before .before .place4 .ensures))
 
--- src/digits.rt:45:29
 slice-aggregate-put-3 : tie.Need-slice-aggregate-put-3
 slice-aggregate-put-3 c = search needs
 
--- src/digits.rt:45:9
 put-requires-3 : tie.Need-put-requires-3
 put-requires-3 c κs = search needs
 
--- src/digits.rt:45:9
 same-length-3 : tie.Need-same-length-3
 same-length-3 c = search needs
 
--- src/digits.rt:45:9
 returns-3 : tie.Need-returns-3
 unfolding decimalOf
 returns-3 c = (c .before .before .put3 .ensures) ∙ simp (lt-ltb _ _ (c .before .before .before .before .before .if3 .taken), le-ltb _ _ (c .before .before .before .before .before .before .if2 .left), le-ltb _ _ (c .before .before .before .before .before .before .before .if1 .left), (c .before .before .before .before .before .before .before .before .place5 .ensures), (c .before .before .before .before .before .before .before .before .before .place4 .ensures), (c .before .before .before .before .before .before .before .before .before .before .place3 .ensures))
 
--- src/digits.rt:49:29
 slice-aggregate-put-4 : tie.Need-slice-aggregate-put-4
 slice-aggregate-put-4 c = search needs
 
--- src/digits.rt:49:9
 put-requires-4 : tie.Need-put-requires-4
 put-requires-4 c κs = search needs
 
--- src/digits.rt:49:9
 same-length-4 : tie.Need-same-length-4
 same-length-4 c = search needs
 
--- src/digits.rt:49:9
 returns-4 : tie.Need-returns-4
 unfolding decimalOf
 returns-4 c = (c .before .before .put4 .ensures) ∙ simp (lt-ltb _ _ (c .before .before .before .before .before .if4 .taken), le-ltb _ _ (c .before .before .before .before .before .before .if3 .left), le-ltb _ _ (c .before .before .before .before .before .before .before .if2 .left), le-ltb _ _ (c .before .before .before .before .before .before .before .before .if1 .left), (c .before .before .before .before .before .before .before .before .before .place5 .ensures), (c .before .before .before .before .before .before .before .before .before .before .place4 .ensures), (c .before .before .before .before .before .before .before .before .before .before .before .place3 .ensures), (c .before .before .before .before .before .before .before .before .before .before .before .before .place2 .ensures))
 
--- src/digits.rt:52:18
 slice-aggregate-put-5 : tie.Need-slice-aggregate-put-5
 slice-aggregate-put-5 c = search needs
 
--- src/digits.rt:52:5
 put-requires-5 : tie.Need-put-requires-5
 put-requires-5 c κs = search needs
 
--- src/digits.rt:27:1
 same-length-5 : tie.Need-same-length-5
 same-length-5 c = search needs
 
--- src/digits.rt:27:1
 returns-5 : tie.Need-returns-5
 unfolding decimalOf
 returns-5 c = (c .before .before .put5 .ensures) ∙ simp (le-ltb _ _ (c .before .before .before .before .before .if4 .left), le-ltb _ _ (c .before .before .before .before .before .before .if3 .left), le-ltb _ _ (c .before .before .before .before .before .before .before .if2 .left), le-ltb _ _ (c .before .before .before .before .before .before .before .before .if1 .left), (c .before .before .before .before .before .before .before .before .before .place5 .ensures), (c .before .before .before .before .before .before .before .before .before .before .place4 .ensures), (c .before .before .before .before .before .before .before .before .before .before .before .place3 .ensures), (c .before .before .before .before .before .before .before .before .before .before .before .before .place2 .ensures), (c .before .before .before .before .before .before .before .before .before .before .before .before .before .place .ensures))

@@ -3,23 +3,17 @@ use borrow.Author.Tests.{lt-ltb, le-ltb}
 use borrow.Author.Needs.{needs}
 use Rattle.lister.proofs.digits.glyph.Statement.{statement}
 use Rattle.lister.proofs.digits.glyph.Tie as tie
-use Rattle.lister.proofs.digits.glyph.Reads as reads
-use Rattle.lister.proofs.digits.glyph.Lts as lts
 
--- src/digits.rt:13:17
 add-result : tie.Need-add-result
 add-result c = search needs
 
--- src/digits.rt:13:33
 add-result-2 : tie.Need-add-result-2
 add-result-2 c = search needs
 
--- src/digits.rt:9:1
 returns : tie.Need-returns
 unfolding glyphOf
 returns c = simp (lt-ltb _ _ (c .if1 .taken))
 
--- src/digits.rt:9:1
 returns-2 : tie.Need-returns-2
 unfolding glyphOf
 returns-2 c = simp (le-ltb _ _ (c .if1 .left))

@@ -2,63 +2,43 @@ use Rattle.lister.proofs.Join.{listed}
 use borrow.Author.Needs.{needs}
 use Rattle.lister.proofs.list.list_file.Statement.{statement}
 use Rattle.lister.proofs.list.list_file.Tie as tie
-use Rattle.lister.proofs.list.list_file.Reads as reads
-use Rattle.lister.proofs.list.list_file.Lts as lts
-use Rattle.benchfile.proofs.section.section_look.Reads as section-look-reads
-use Rattle.benchfile.proofs.word.two.Reads as two-reads
-use Rattle.lister.proofs.body.lines.Reads as lines-reads
-use Rattle.lister.proofs.list.rows.Reads as rows-reads
-use Rattle.lister.proofs.list.settings.Reads as settings-reads
 
--- src/list.rt:43:9
 section-look-requires : tie.Need-section-look-requires
 section-look-requires c κs = search needs
 
--- src/list.rt:44:9
 section-look-requires-2 : tie.Need-section-look-requires-2
 section-look-requires-2 c κs = search needs
 
--- src/list.rt:45:9
 section-look-requires-3 : tie.Need-section-look-requires-3
 section-look-requires-3 c κs = search needs
 
--- src/list.rt:46:9
 section-look-requires-4 : tie.Need-section-look-requires-4
 section-look-requires-4 c κs = search needs
 
--- src/list.rt:47:9
 two-requires : tie.Need-two-requires
 two-requires c κs = search needs
 
--- src/list.rt:48:9
 settings-requires : tie.Need-settings-requires
 settings-requires c κs = search needs
 
--- src/list.rt:49:27
 slice-aggregate-lines : tie.Need-slice-aggregate-lines
 slice-aggregate-lines c = search needs
 
--- src/list.rt:49:9
 lines-requires : tie.Need-lines-requires
 lines-requires c κs = search needs
 
--- src/list.rt:50:27
 slice-aggregate-lines-2 : tie.Need-slice-aggregate-lines-2
 slice-aggregate-lines-2 c = search needs
 
--- src/list.rt:50:9
 lines-requires-2 : tie.Need-lines-requires-2
 lines-requires-2 c κs = search needs
 
--- src/list.rt:51:5
 rows-requires : tie.Need-rows-requires
 rows-requires c κs = search needs
 
--- src/list.rt:40:1
 same-length : tie.Need-same-length
 same-length c = search needs
 
--- src/list.rt:40:1
 returns : tie.Need-returns
 returns c = listed _ (c .before .before .before .before .before .before .before .before .before .before .before .before .before .before .before .before .before .before .before .before .before .before .before .before .before .args .file .now) (c .before .before .before .before .before .before .before .before .before .before .before .before .before .before .before .before .before .before .before .before .before .before .section-look .ensures) (c .before .before .before .before .before .before .before .before .before .before .before .before .before .before .before .before .before .before .before .before .before .section-look2 .ensures) (c .before .before .before .before .before .before .before .before .before .before .before .before .before .before .before .before .before .before .before .before .section-look3 .ensures) (c .before .before .before .before .before .before .before .before .before .before .before .before .before .before .before .before .before .before .before .section-look4 .ensures) (c .before .before .before .before .before .before .before .before .before .before .before .before .before .before .before .before .before .before .two .ensures) (c .before .before .before .before .before .before .before .before .before .before .before .before .before .before .before .before .settings .ensures) (c .before .before .before .before .before .before .before .before .before .before .before .lines .ensures) (c .before .before .before .before .before .before .lines2 .ensures) (c .before .before .rows .ensures)
 

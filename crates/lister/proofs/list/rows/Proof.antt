@@ -9,10 +9,6 @@ use Prim.Native.Nat.{_-_}
 use mathlib.Core.Path.{_≡_, refl, sym, ap, _∙_}
 use Rattle.lister.proofs.list.rows.Statement.{statement}
 use Rattle.lister.proofs.list.rows.Tie as tie
-use Rattle.lister.proofs.list.rows.Reads as reads
-use Rattle.lister.proofs.list.rows.Lts as lts
-use Rattle.benchfile.proofs.part.part.Reads as part-reads
-use Rattle.lister.proofs.row.write_row.Reads as write-row-reads
 
 abbrev Inv-loop : tie.InvT-loop
 Inv-loop out₀ at s n to₀ i₀ out to i =
@@ -21,39 +17,30 @@ Inv-loop out₀ at s n to₀ i₀ out to i =
 abbrev μ-loop : tie.MeasureT-loop
 μ-loop out₀ at s n to₀ i₀ out to i = n - i
 
--- src/list.rt:31:5
 loop-holds : tie.Need-loop-holds Inv-loop μ-loop
 loop-holds c = (refl, rows-start _ _ _)
 
--- src/list.rt:32:27
 mul-part : tie.Need-mul-part Inv-loop μ-loop
 mul-part c = search needs
 
--- src/list.rt:32:13
 part-requires : tie.Need-part-requires Inv-loop μ-loop
 part-requires c κs = tt
 
--- src/list.rt:33:9
 write-row-requires : tie.Need-write-row-requires Inv-loop μ-loop
 write-row-requires c κs = tt
 
--- src/list.rt:34:9
 add-i : tie.Need-add-i Inv-loop μ-loop
 add-i c = search needs
 
--- src/list.rt:31:5
 loop-less : tie.Need-loop-less Inv-loop μ-loop
 loop-less c = omega arith
 
--- src/list.rt:31:5
 loop-again : tie.Need-loop-again Inv-loop μ-loop
 loop-again c = ((c .before .before .write-row .kept .0) ∙ (c .before .before .before .before .before .before .loop .inv .0), (c .before .before .before .before .before .before .loop .inv .1) ∙ rows-next _ _ _ _ (c .before .before .before .before .before .loop-test .taken) (c .before .before .before .before .part .ensures) (c .before .before .write-row .ensures))
 
--- src/list.rt:25:1
 same-length : tie.Need-same-length Inv-loop μ-loop
 same-length c = (c .before .loop .inv .0)
 
--- src/list.rt:25:1
 returns : tie.Need-returns Inv-loop μ-loop
 unfolding scriptText
 returns c = sym ((c .before .loop .inv .1) ∙ rows-end _ _ _ _ (c .loop-test .left))

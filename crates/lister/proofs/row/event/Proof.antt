@@ -6,33 +6,23 @@ use borrow.Author.Tests.{eq-eqb, ne-eqb}
 use borrow.Author.Needs.{needs}
 use Rattle.lister.proofs.row.event.Statement.{statement}
 use Rattle.lister.proofs.row.event.Tie as tie
-use Rattle.lister.proofs.row.event.Reads as reads
-use Rattle.lister.proofs.row.event.Lts as lts
-use Rattle.append.proofs.put.Reads as put-reads
-use Rattle.lister.proofs.digits.decimal.Reads as decimal-reads
 
--- src/row.rt:46:9
 returns : tie.Need-returns
 unfolding eventText
 returns c = rw (eq-eqb _ _ (c .if1 .taken)) (sym (puts-none _))
 
--- src/row.rt:48:27
 slice-aggregate-put : tie.Need-slice-aggregate-put
 slice-aggregate-put c = search needs
 
--- src/row.rt:48:9
 put-requires : tie.Need-put-requires
 put-requires c κs = search needs
 
--- src/row.rt:49:5
 decimal-requires : tie.Need-decimal-requires
 decimal-requires c κs = search needs
 
--- src/row.rt:42:1
 same-length : tie.Need-same-length
 same-length c = search needs
 
--- src/row.rt:42:1
 returns-2 : tie.Need-returns-2
 unfolding eventText
 returns-2 c = rw (ne-eqb _ _ (c .before .before .before .before .before .before .before .before .before .if1 .left)) (then _ _ _ (c .before .before .before .before .before .before .put .ensures) (c .before .before .decimal .ensures))

@@ -5,62 +5,46 @@ use borrow.Author.Tests.{eq-eqb, ne-eqb}
 use borrow.Author.Needs.{needs}
 use Rattle.lister.proofs.row.flags.Statement.{statement}
 use Rattle.lister.proofs.row.flags.Tie as tie
-use Rattle.lister.proofs.row.flags.Reads as reads
-use Rattle.lister.proofs.row.flags.Lts as lts
-use Rattle.append.proofs.put.Reads as put-reads
 
--- src/row.rt:57:29
 slice-aggregate-put : tie.Need-slice-aggregate-put
 slice-aggregate-put c = search needs
 
--- src/row.rt:57:9
 put-requires : tie.Need-put-requires
 put-requires c κs = search needs
 
--- src/row.rt:57:9
 same-length : tie.Need-same-length
 same-length c = search needs
 
--- src/row.rt:57:9
 returns : tie.Need-returns
 unfolding flagsText
 returns c = rw (c .before .before .before .before .before .if1 .taken) (c .before .before .put .ensures)
 
--- src/row.rt:60:29
 slice-aggregate-put-2 : tie.Need-slice-aggregate-put-2
 slice-aggregate-put-2 c = search needs
 
--- src/row.rt:60:9
 put-requires-2 : tie.Need-put-requires-2
 put-requires-2 c κs = search needs
 
--- src/row.rt:60:9
 same-length-2 : tie.Need-same-length-2
 same-length-2 c = search needs
 
--- src/row.rt:60:9
 returns-2 : tie.Need-returns-2
 unfolding flagsText
 returns-2 c = rw (c .before .before .before .before .before .if2 .taken) (c .before .before .put2 .ensures)
 
--- src/row.rt:63:29
 slice-aggregate-put-3 : tie.Need-slice-aggregate-put-3
 slice-aggregate-put-3 c = search needs
 
--- src/row.rt:63:9
 put-requires-3 : tie.Need-put-requires-3
 put-requires-3 c κs = search needs
 
--- src/row.rt:63:9
 same-length-3 : tie.Need-same-length-3
 same-length-3 c = search needs
 
--- src/row.rt:63:9
 returns-3 : tie.Need-returns-3
 unfolding flagsText
 returns-3 c = rw (c .before .before .before .before .before .if3 .taken) (c .before .before .put3 .ensures)
 
--- src/row.rt:53:1
 returns-4 : tie.Need-returns-4
 unfolding flagsText
 returns-4 c = rw (ne-eqb _ _ (c .before .before .if1 .left), ne-eqb _ _ (c .before .if2 .left), ne-eqb _ _ (c .if3 .left)) (sym (puts-none _))

@@ -4,41 +4,28 @@ use Rattle.lister.specs.Row.{padText}
 use borrow.Author.Needs.{needs}
 use Rattle.lister.proofs.row.pad.Statement.{statement}
 use Rattle.lister.proofs.row.pad.Tie as tie
-use Rattle.lister.proofs.row.pad.Reads as reads
-use Rattle.lister.proofs.row.pad.Lts as lts
-use Rattle.append.proofs.put.Reads as put-reads
-use Rattle.lister.proofs.digits.decimal.Reads as decimal-reads
-use Rattle.lister.proofs.row.word_text.Reads as word-text-reads
 
--- src/row.rt:81:26
 slice-aggregate-put : tie.Need-slice-aggregate-put
 slice-aggregate-put c = search needs
 
--- src/row.rt:81:9
 put-requires : tie.Need-put-requires
 put-requires c κs = search needs
 
--- src/row.rt:82:9
 decimal-requires : tie.Need-decimal-requires
 decimal-requires c κs = search needs
 
--- src/row.rt:83:13
 word-text-requires : tie.Need-word-text-requires
 word-text-requires c κs = search needs
 
--- src/row.rt:84:17
 slice-aggregate-put-2 : tie.Need-slice-aggregate-put-2
 slice-aggregate-put-2 c = search needs
 
--- src/row.rt:84:5
 put-requires-2 : tie.Need-put-requires-2
 put-requires-2 c κs = search needs
 
--- src/row.rt:78:1
 same-length : tie.Need-same-length
 same-length c = search needs
 
--- src/row.rt:78:1
 returns : tie.Need-returns
 unfolding padText
 returns c = then _ _ _ (c .before .before .before .before .before .before .before .before .before .before .before .before .put .ensures) (then _ _ _ (c .before .before .before .before .before .before .before .before .decimal .ensures) ((c .before .before .put2 .ensures) ∙ simp ((c .before .before .before .before .before .word-text .ensures))))

@@ -4,53 +4,38 @@ use Rattle.lister.specs.Row.{plugText}
 use borrow.Author.Needs.{needs}
 use Rattle.lister.proofs.row.plug.Statement.{statement}
 use Rattle.lister.proofs.row.plug.Tie as tie
-use Rattle.lister.proofs.row.plug.Reads as reads
-use Rattle.lister.proofs.row.plug.Lts as lts
-use Rattle.append.proofs.put.Reads as put-reads
-use Rattle.lister.proofs.digits.decimal.Reads as decimal-reads
 
--- src/row.rt:90:26
 slice-aggregate-put : tie.Need-slice-aggregate-put
 slice-aggregate-put c = search needs
 
--- src/row.rt:90:9
 put-requires : tie.Need-put-requires
 put-requires c κs = search needs
 
--- src/row.rt:91:9
 decimal-requires : tie.Need-decimal-requires
 decimal-requires c κs = search needs
 
--- src/row.rt:93:28
 slice-aggregate-put-2 : tie.Need-slice-aggregate-put-2
 slice-aggregate-put-2 c = search needs
 
--- src/row.rt:93:9
 put-requires-2 : tie.Need-put-requires-2
 put-requires-2 c κs = search needs
 
--- src/row.rt:93:9
 same-length : tie.Need-same-length
 same-length c = search needs
 
--- src/row.rt:93:9
 returns : tie.Need-returns
 unfolding plugText
 returns c = rw (eq-eqb _ _ (c .before .before .before .before .before .if1 .taken)) (then _ _ _ (c .before .before .before .before .before .before .before .before .before .before .before .before .put .ensures) (then _ _ _ (c .before .before .before .before .before .before .before .before .decimal .ensures) (c .before .before .put2 .ensures)))
 
--- src/row.rt:95:17
 slice-aggregate-put-3 : tie.Need-slice-aggregate-put-3
 slice-aggregate-put-3 c = search needs
 
--- src/row.rt:95:5
 put-requires-3 : tie.Need-put-requires-3
 put-requires-3 c κs = search needs
 
--- src/row.rt:87:1
 same-length-2 : tie.Need-same-length-2
 same-length-2 c = search needs
 
--- src/row.rt:87:1
 returns-2 : tie.Need-returns-2
 unfolding plugText
 returns-2 c = rw (ne-eqb _ _ (c .before .before .before .before .before .if1 .left)) (then _ _ _ (c .before .before .before .before .before .before .before .before .before .before .before .before .put .ensures) (then _ _ _ (c .before .before .before .before .before .before .before .before .decimal .ensures) (c .before .before .put3 .ensures)))

@@ -1,27 +1,19 @@
 use borrow.Author.Needs.{needs}
 use Rattle.lister.proofs.row.word_text.Statement.{statement}
 use Rattle.lister.proofs.row.word_text.Tie as tie
-use Rattle.lister.proofs.row.word_text.Reads as reads
-use Rattle.lister.proofs.row.word_text.Lts as lts
-use Rattle.lister.proofs.digits.glyph.Reads as glyph-reads
 
--- src/row.rt:38:18
 glyph-requires : tie.Need-glyph-requires
 glyph-requires c κs = search needs
 
--- src/row.rt:38:36
 glyph-requires-2 : tie.Need-glyph-requires-2
 glyph-requires-2 c κs = search needs
 
--- src/row.rt:38:49
 glyph-requires-3 : tie.Need-glyph-requires-3
 glyph-requires-3 c κs = search needs
 
--- src/row.rt:38:66
 glyph-requires-4 : tie.Need-glyph-requires-4
 glyph-requires-4 c κs = search needs
 
--- src/row.rt:35:1
 returns : tie.Need-returns
 returns c = simp (c .glyph4 .ensures, c .before .glyph3 .ensures, c .before .before .glyph2 .ensures, c .before .before .before .glyph .ensures)
 

@@ -5,159 +5,113 @@ use borrow.Author.Tests.{eq-eqb, ne-eqb}
 use borrow.Author.Needs.{needs}
 use Rattle.lister.proofs.row.write_row.Statement.{statement}
 use Rattle.lister.proofs.row.write_row.Tie as tie
-use Rattle.lister.proofs.row.write_row.Reads as reads
-use Rattle.lister.proofs.row.write_row.Lts as lts
-use Rattle.append.proofs.put.Reads as put-reads
-use Rattle.benchfile.proofs.word.byte.Reads as byte-reads
-use Rattle.benchfile.proofs.word.two.Reads as two-reads
-use Rattle.lister.proofs.row.answer_text.Reads as answer-text-reads
-use Rattle.lister.proofs.row.back.Reads as back-reads
-use Rattle.lister.proofs.row.cycles.Reads as cycles-reads
-use Rattle.lister.proofs.row.pad.Reads as pad-reads
-use Rattle.lister.proofs.row.plug.Reads as plug-reads
-use Rattle.lister.proofs.row.read_text.Reads as read-text-reads
-use Rattle.lister.proofs.row.write_text.Reads as write-text-reads
 
--- src/row.rt:110:9
 byte-requires : tie.Need-byte-requires
 byte-requires c κs = search needs
 
--- src/row.rt:111:9
 byte-requires-2 : tie.Need-byte-requires-2
 byte-requires-2 c κs = search needs
 
--- src/row.rt:112:9
 byte-requires-3 : tie.Need-byte-requires-3
 byte-requires-3 c κs = search needs
 
--- src/row.rt:113:9
 byte-requires-4 : tie.Need-byte-requires-4
 byte-requires-4 c κs = search needs
 
--- src/row.rt:114:9
 byte-requires-5 : tie.Need-byte-requires-5
 byte-requires-5 c κs = search needs
 
--- src/row.rt:115:9
 two-requires : tie.Need-two-requires
 two-requires c κs = search needs
 
--- src/row.rt:117:9
 cycles-requires : tie.Need-cycles-requires
 cycles-requires c κs = search needs
 
--- src/row.rt:117:9
 same-length : tie.Need-same-length
 same-length c = search needs
 
--- src/row.rt:117:9
 returns : tie.Need-returns
 unfolding rowText
 returns c = (c .before .before .cycles .ensures) ∙ simp (sym (c .before .before .before .before .before .before .before .before .before .before .byte .ensures) ∙ (c .before .before .before .before .if1 .taken), (c .before .before .before .before .before .two .ensures), (c .before .before .before .before .before .before .before .byte4 .ensures), (c .before .before .before .before .before .before .byte5 .ensures))
 
--- src/row.rt:120:17
 read-text-requires : tie.Need-read-text-requires
 read-text-requires c κs = search needs
 
--- src/row.rt:121:29
 slice-aggregate-put : tie.Need-slice-aggregate-put
 slice-aggregate-put c = search needs
 
--- src/row.rt:121:9
 put-requires : tie.Need-put-requires
 put-requires c κs = search needs
 
--- src/row.rt:121:9
 same-length-2 : tie.Need-same-length-2
 same-length-2 c = search needs
 
--- src/row.rt:121:9
 returns-2 : tie.Need-returns-2
 unfolding rowText
 returns-2 c = (c .before .before .put .ensures) ∙ simp (sym (c .before .before .before .before .before .before .before .before .before .before .before .before .before .byte .ensures) ∙ (c .before .before .before .before .before .before .if2 .taken), (c .before .before .before .before .before .read-text .ensures), (c .before .before .before .before .before .before .before .before .before .before .before .before .byte2 .ensures), (c .before .before .before .before .before .before .before .before .before .before .before .byte3 .ensures), (c .before .before .before .before .before .before .before .before .before .before .byte4 .ensures))
 
--- src/row.rt:124:17
 write-text-requires : tie.Need-write-text-requires
 write-text-requires c κs = search needs
 
--- src/row.rt:125:29
 slice-aggregate-put-2 : tie.Need-slice-aggregate-put-2
 slice-aggregate-put-2 c = search needs
 
--- src/row.rt:125:9
 put-requires-2 : tie.Need-put-requires-2
 put-requires-2 c κs = search needs
 
--- src/row.rt:125:9
 same-length-3 : tie.Need-same-length-3
 same-length-3 c = search needs
 
--- src/row.rt:125:9
 returns-3 : tie.Need-returns-3
 unfolding rowText
 returns-3 c = (c .before .before .put2 .ensures) ∙ simp (sym (c .before .before .before .before .before .before .before .before .before .before .before .before .before .before .byte .ensures) ∙ (c .before .before .before .before .before .before .if3 .taken), (c .before .before .before .before .before .write-text .ensures), (c .before .before .before .before .before .before .before .before .before .before .before .before .before .byte2 .ensures), (c .before .before .before .before .before .before .before .before .before .before .before .before .byte3 .ensures), (c .before .before .before .before .before .before .before .before .before .before .before .byte4 .ensures), (c .before .before .before .before .before .before .before .before .before .before .byte5 .ensures))
 
--- src/row.rt:128:9
 pad-requires : tie.Need-pad-requires
 pad-requires c κs = search needs
 
--- src/row.rt:128:9
 same-length-4 : tie.Need-same-length-4
 same-length-4 c = search needs
 
--- src/row.rt:128:9
 returns-4 : tie.Need-returns-4
 unfolding rowText
 returns-4 c = (c .before .before .pad .ensures) ∙ simp (sym (c .before .before .before .before .before .before .before .before .before .before .before .before .before .byte .ensures) ∙ (c .before .before .before .before .if4 .taken), (c .before .before .before .before .before .before .before .before .before .before .before .before .byte2 .ensures), (c .before .before .before .before .before .before .before .before .before .before .before .byte3 .ensures), (c .before .before .before .before .before .before .before .before .before .before .byte4 .ensures))
 
--- src/row.rt:131:9
 plug-requires : tie.Need-plug-requires
 plug-requires c κs = search needs
 
--- src/row.rt:131:9
 same-length-5 : tie.Need-same-length-5
 same-length-5 c = search needs
 
--- src/row.rt:131:9
 returns-5 : tie.Need-returns-5
 unfolding rowText
 returns-5 c = (c .before .before .plug .ensures) ∙ simp (sym (c .before .before .before .before .before .before .before .before .before .before .before .before .before .before .byte .ensures) ∙ (c .before .before .before .before .if5 .taken), (c .before .before .before .before .before .before .before .before .before .before .before .before .before .byte2 .ensures), (c .before .before .before .before .before .before .before .before .before .before .before .before .byte3 .ensures))
 
--- src/row.rt:134:17
 answer-text-requires : tie.Need-answer-text-requires
 answer-text-requires c κs = search needs
 
--- src/row.rt:135:29
 slice-aggregate-put-3 : tie.Need-slice-aggregate-put-3
 slice-aggregate-put-3 c = search needs
 
--- src/row.rt:135:9
 put-requires-3 : tie.Need-put-requires-3
 put-requires-3 c κs = search needs
 
--- src/row.rt:135:9
 same-length-6 : tie.Need-same-length-6
 same-length-6 c = search needs
 
--- src/row.rt:135:9
 returns-6 : tie.Need-returns-6
 unfolding rowText
 returns-6 c = (c .before .before .put3 .ensures) ∙ simp (sym (c .before .before .before .before .before .before .before .before .before .before .before .before .before .before .before .before .before .byte .ensures) ∙ (c .before .before .before .before .before .before .if6 .taken), (c .before .before .before .before .before .answer-text .ensures), (c .before .before .before .before .before .before .before .before .before .before .before .before .before .before .before .byte3 .ensures), (c .before .before .before .before .before .before .before .before .before .before .before .before .before .before .byte4 .ensures), (c .before .before .before .before .before .before .before .before .before .before .before .before .before .byte5 .ensures))
 
--- src/row.rt:138:9
 back-requires : tie.Need-back-requires
 back-requires c κs = search needs
 
--- src/row.rt:138:9
 same-length-7 : tie.Need-same-length-7
 same-length-7 c = search needs
 
--- src/row.rt:138:9
 returns-7 : tie.Need-returns-7
 unfolding rowText
 returns-7 c = (c .before .before .back .ensures) ∙ simp (sym (c .before .before .before .before .before .before .before .before .before .before .before .before .before .before .before .before .byte .ensures) ∙ (c .before .before .before .before .if7 .taken), (c .before .before .before .before .before .before .before .before .before .before .before .two .ensures))
 
--- src/row.rt:107:1
 returns-8 : tie.Need-returns-8
 unfolding rowText
 returns-8 c = simp (ne-eqb _ _ (λ e. (c .before .before .before .before .before .before .if1 .left) ((c .before .before .before .before .before .before .before .before .before .before .before .before .byte .ensures) ∙ e)), ne-eqb _ _ (λ e. (c .before .before .before .before .before .if2 .left) ((c .before .before .before .before .before .before .before .before .before .before .before .before .byte .ensures) ∙ e)), ne-eqb _ _ (λ e. (c .before .before .before .before .if3 .left) ((c .before .before .before .before .before .before .before .before .before .before .before .before .byte .ensures) ∙ e)), ne-eqb _ _ (λ e. (c .before .before .before .if4 .left) ((c .before .before .before .before .before .before .before .before .before .before .before .before .byte .ensures) ∙ e)), ne-eqb _ _ (λ e. (c .before .before .if5 .left) ((c .before .before .before .before .before .before .before .before .before .before .before .before .byte .ensures) ∙ e)), ne-eqb _ _ (λ e. (c .before .if6 .left) ((c .before .before .before .before .before .before .before .before .before .before .before .before .byte .ensures) ∙ e)), ne-eqb _ _ (λ e. (c .if7 .left) ((c .before .before .before .before .before .before .before .before .before .before .before .before .byte .ensures) ∙ e))) (sym (puts-none _))

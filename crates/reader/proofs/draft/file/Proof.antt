@@ -3,20 +3,14 @@ use borrow.Author.Tests.{eq-eqb, ne-eqb}
 use borrow.Author.Needs.{needs}
 use Rattle.reader.proofs.draft.file.Statement.{statement}
 use Rattle.reader.proofs.draft.file.Tie as tie
-use Rattle.reader.proofs.draft.file.Reads as reads
-use Rattle.reader.proofs.draft.file.Lts as lts
-use Rattle.reader.proofs.draft.failed.Reads as failed-reads
 
--- src/draft.rt:173:9
 returns : tie.Need-returns
 unfolding fileOf
 returns c = simp (eq-eqb _ _ (c .if1 .taken))
 
--- src/draft.rt:175:5
 failed-requires : tie.Need-failed-requires
 failed-requires c κs = search needs
 
--- src/draft.rt:166:1
 returns-2 : tie.Need-returns-2
 unfolding fileOf
 returns-2 c = simp (ne-eqb _ _ (c .before .if1 .left), c .failed .ensures)

@@ -3,30 +3,22 @@ use borrow.Author.Tests.{eq-eqb, ne-eqb}
 use borrow.Author.Needs.{needs}
 use Rattle.reader.proofs.draft.option.Statement.{statement}
 use Rattle.reader.proofs.draft.option.Tie as tie
-use Rattle.reader.proofs.draft.option.Reads as reads
-use Rattle.reader.proofs.draft.option.Lts as lts
-use Rattle.reader.proofs.draft.failed.Reads as failed-reads
 
--- src/draft.rt:133:9
 returns : tie.Need-returns
 unfolding optionOf
 returns c = simp (eq-eqb _ _ (c .if1 .taken))
 
--- src/draft.rt:138:9
 returns-2 : tie.Need-returns-2
 unfolding optionOf
 returns-2 c = simp (eq-eqb _ _ (c .before .if2 .taken), ne-eqb _ _ (c .before .before .if1 .left))
 
--- src/draft.rt:143:9
 returns-3 : tie.Need-returns-3
 unfolding optionOf
 returns-3 c = simp (eq-eqb _ _ (c .before .if3 .taken), ne-eqb _ _ (c .before .before .if2 .left), ne-eqb _ _ (c .before .before .before .if1 .left))
 
--- src/draft.rt:145:5
 failed-requires : tie.Need-failed-requires
 failed-requires c κs = search needs
 
--- src/draft.rt:127:1
 returns-4 : tie.Need-returns-4
 unfolding optionOf
 returns-4 c = simp (ne-eqb _ _ (c .before .if3 .left), ne-eqb _ _ (c .before .before .if2 .left), ne-eqb _ _ (c .before .before .before .if1 .left), c .failed .ensures)

@@ -3,25 +3,18 @@ use borrow.Author.Tests.{eq-eqb, ne-eqb}
 use borrow.Author.Needs.{needs}
 use Rattle.reader.proofs.draft.switch.Statement.{statement}
 use Rattle.reader.proofs.draft.switch.Tie as tie
-use Rattle.reader.proofs.draft.switch.Reads as reads
-use Rattle.reader.proofs.draft.switch.Lts as lts
-use Rattle.reader.proofs.draft.failed.Reads as failed-reads
 
--- src/draft.rt:156:9
 returns : tie.Need-returns
 unfolding switchOf
 returns c = simp (eq-eqb _ _ (c .if1 .taken))
 
--- src/draft.rt:160:9
 returns-2 : tie.Need-returns-2
 unfolding switchOf
 returns-2 c = simp (eq-eqb _ _ (c .if2 .taken), ne-eqb _ _ (c .before .if1 .left))
 
--- src/draft.rt:162:5
 failed-requires : tie.Need-failed-requires
 failed-requires c κs = search needs
 
--- src/draft.rt:149:1
 returns-3 : tie.Need-returns-3
 unfolding switchOf
 returns-3 c = simp (ne-eqb _ _ (c .before .if2 .left), ne-eqb _ _ (c .before .before .if1 .left), c .failed .ensures)

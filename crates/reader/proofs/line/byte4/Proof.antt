@@ -3,14 +3,10 @@ use Rattle.common.specs.Table.{find-none}
 use Rattle.reader.specs.Line.{fourthBytes}
 use Rattle.reader.proofs.line.byte4.Statement.{statement}
 use Rattle.reader.proofs.line.byte4.Tie as tie
-use Rattle.reader.proofs.line.byte4.Reads as reads
-use Rattle.reader.proofs.line.byte4.Lts as lts
 
--- src/line.rt:116:1
 returns : tie.Need-returns
 returns c = simp (c .match .keys1)
 
--- src/line.rt:116:1
 returns-2 : tie.Need-returns-2
 returns-2 c = let a = c .before .args in sym (find-none Unit (fourthBytes (a .low)) (a .state) (a .b4) (c .match .rest))
 

@@ -3,25 +3,18 @@ use borrow.Author.Tests.{eq-eqb, ne-eqb}
 use borrow.Author.Needs.{needs}
 use Rattle.reader.proofs.line.line_end.Statement.{statement}
 use Rattle.reader.proofs.line.line_end.Tie as tie
-use Rattle.reader.proofs.line.line_end.Reads as reads
-use Rattle.reader.proofs.line.line_end.Lts as lts
-use Rattle.reader.proofs.line.closing.Reads as closing-reads
 
--- src/line.rt:241:9
 returns : tie.Need-returns
 unfolding lineOf
 returns c = simp (eq-eqb _ _ (c .if1 .taken))
 
--- src/line.rt:244:9
 returns-2 : tie.Need-returns-2
 unfolding lineOf
 returns-2 c = simp (eq-eqb _ _ (c .if2 .taken), ne-eqb _ _ (c .before .before .if1 .left))
 
--- src/line.rt:246:5
 closing-requires : tie.Need-closing-requires
 closing-requires c κs = search needs
 
--- src/line.rt:237:1
 returns-3 : tie.Need-returns-3
 unfolding lineOf
 returns-3 c = simp (ne-eqb _ _ (c .before .if2 .left), ne-eqb _ _ (c .before .before .before .if1 .left), c .closing .ensures)

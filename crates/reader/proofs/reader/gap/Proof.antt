@@ -3,14 +3,10 @@ use Rattle.common.specs.Table.{find-none}
 use Rattle.reader.specs.Reader.{gaps}
 use Rattle.reader.proofs.reader.gap.Statement.{statement}
 use Rattle.reader.proofs.reader.gap.Tie as tie
-use Rattle.reader.proofs.reader.gap.Reads as reads
-use Rattle.reader.proofs.reader.gap.Lts as lts
 
--- src/reader.rt:72:1
 returns : tie.Need-returns
 returns c = simp (c .match .keys1)
 
--- src/reader.rt:72:1
 returns-2 : tie.Need-returns-2
 returns-2 c = let a = c .before .args in sym (find-none Unit (gaps) (a .state) (0) (c .match .rest))
 

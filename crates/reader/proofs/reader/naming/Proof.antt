@@ -3,25 +3,18 @@ use borrow.Author.Tests.{eq-eqb, ne-eqb}
 use borrow.Author.Needs.{needs}
 use Rattle.reader.proofs.reader.naming.Statement.{statement}
 use Rattle.reader.proofs.reader.naming.Tie as tie
-use Rattle.reader.proofs.reader.naming.Reads as reads
-use Rattle.reader.proofs.reader.naming.Lts as lts
-use Rattle.reader.proofs.word.blank.Reads as blank-reads
 
--- src/reader.rt:99:13
 blank-requires : tie.Need-blank-requires
 blank-requires c κs = search needs
 
--- src/reader.rt:100:9
 returns : tie.Need-returns
 unfolding namingOf
 returns c = simp (eq-eqb _ _ (c .before .if1 .taken), c .blank .ensures)
 
--- src/reader.rt:95:1
 returns-2 : tie.Need-returns-2
 unfolding namingOf
 returns-2 c = simp (ne-eqb _ _ (c .if2 .taken), ne-eqb _ _ (c .before .if1 .left))
 
--- src/reader.rt:95:1
 returns-3 : tie.Need-returns-3
 unfolding namingOf
 returns-3 c = simp (eq-eqb _ _ (c .if2 .left), ne-eqb _ _ (c .before .if1 .left))

@@ -3,40 +3,27 @@ use borrow.Author.Tests.{eq-eqb, ne-eqb}
 use borrow.Author.Needs.{needs}
 use Rattle.reader.proofs.reader.plain.Statement.{statement}
 use Rattle.reader.proofs.reader.plain.Tie as tie
-use Rattle.reader.proofs.reader.plain.Reads as reads
-use Rattle.reader.proofs.reader.plain.Lts as lts
-use Rattle.reader.proofs.letter.digit.Reads as digit-reads
-use Rattle.reader.proofs.word.colon.Reads as colon-reads
-use Rattle.reader.proofs.word.dollar.Reads as dollar-reads
-use Rattle.reader.proofs.word.letter.Reads as letter-reads
 
--- src/reader.rt:120:9
 dollar-requires : tie.Need-dollar-requires
 dollar-requires c κs = search needs
 
--- src/reader.rt:120:9
 returns : tie.Need-returns
 unfolding plainOf
 returns c = simp (eq-eqb _ _ (c .before .if1 .taken), c .dollar .ensures)
 
--- src/reader.rt:123:9
 colon-requires : tie.Need-colon-requires
 colon-requires c κs = search needs
 
--- src/reader.rt:123:9
 returns-2 : tie.Need-returns-2
 unfolding plainOf
 returns-2 c = simp (eq-eqb _ _ (c .before .if2 .taken), ne-eqb _ _ (c .before .before .if1 .left), c .colon .ensures)
 
--- src/reader.rt:125:9
 digit-requires : tie.Need-digit-requires
 digit-requires c κs = search needs
 
--- src/reader.rt:126:5
 letter-requires : tie.Need-letter-requires
 letter-requires c κs = search needs
 
--- src/reader.rt:116:1
 returns-3 : tie.Need-returns-3
 unfolding plainOf
 returns-3 c = simp (ne-eqb _ _ (c .before .before .if2 .left), ne-eqb _ _ (c .before .before .before .if1 .left), c .letter .ensures, c .before .digit .ensures)

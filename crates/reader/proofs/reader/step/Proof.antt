@@ -3,73 +3,51 @@ use borrow.Author.Tests.{eq-eqb, ne-eqb}
 use borrow.Author.Needs.{needs}
 use Rattle.reader.proofs.reader.step.Statement.{statement}
 use Rattle.reader.proofs.reader.step.Tie as tie
-use Rattle.reader.proofs.reader.step.Reads as reads
-use Rattle.reader.proofs.reader.step.Lts as lts
-use Rattle.reader.proofs.line.line_end.Reads as line-end-reads
-use Rattle.reader.proofs.reader.naming.Reads as naming-reads
-use Rattle.reader.proofs.reader.plain.Reads as plain-reads
-use Rattle.reader.proofs.reader.shut.Reads as shut-reads
-use Rattle.reader.proofs.reader.spaced.Reads as spaced-reads
-use Rattle.reader.proofs.word.blank.Reads as blank-reads
 
--- src/reader.rt:134:13
 shut-requires : tie.Need-shut-requires
 shut-requires c κs = search needs
 
--- src/reader.rt:135:13
 line-end-requires : tie.Need-line-end-requires
 line-end-requires c κs = search needs
 
--- src/reader.rt:136:13
 blank-requires : tie.Need-blank-requires
 blank-requires c κs = search needs
 
--- src/reader.rt:137:9
 returns : tie.Need-returns
 unfolding stepOf
 returns c = simp (eq-eqb _ _ (c .before .before .before .if1 .taken), c .blank .ensures, c .before .line-end .ensures, c .before .before .shut .ensures)
 
--- src/reader.rt:143:9
 returns-2 : tie.Need-returns-2
 unfolding stepOf
 returns-2 c = simp (eq-eqb _ _ (c .if2 .taken), ne-eqb _ _ (c .before .before .if1 .left))
 
--- src/reader.rt:146:9
 naming-requires : tie.Need-naming-requires
 naming-requires c κs = search needs
 
--- src/reader.rt:146:9
 returns-3 : tie.Need-returns-3
 unfolding stepOf
 returns-3 c = simp (eq-eqb _ _ (c .before .if3 .taken), ne-eqb _ _ (c .before .before .before .if2 .left), ne-eqb _ _ (c .before .before .before .before .before .if1 .left), c .naming .ensures)
 
--- src/reader.rt:149:13
 shut-requires-2 : tie.Need-shut-requires-2
 shut-requires-2 c κs = search needs
 
--- src/reader.rt:150:13
 blank-requires-2 : tie.Need-blank-requires-2
 blank-requires-2 c κs = search needs
 
--- src/reader.rt:151:9
 returns-4 : tie.Need-returns-4
 unfolding stepOf
 returns-4 c = simp (eq-eqb _ _ (c .before .before .if4 .taken), ne-eqb _ _ (c .before .before .before .if3 .left), ne-eqb _ _ (c .before .before .before .before .before .if2 .left), ne-eqb _ _ (c .before .before .before .before .before .before .before .if1 .left), c .blank2 .ensures, c .before .shut2 .ensures)
 
--- src/reader.rt:157:9
 spaced-requires : tie.Need-spaced-requires
 spaced-requires c κs = search needs
 
--- src/reader.rt:157:9
 returns-5 : tie.Need-returns-5
 unfolding stepOf
 returns-5 c = simp (eq-eqb _ _ (c .before .if5 .taken), ne-eqb _ _ (c .before .before .if4 .left), ne-eqb _ _ (c .before .before .before .if3 .left), ne-eqb _ _ (c .before .before .before .before .before .if2 .left), ne-eqb _ _ (c .before .before .before .before .before .before .before .if1 .left), c .spaced .ensures)
 
--- src/reader.rt:159:9
 plain-requires : tie.Need-plain-requires
 plain-requires c κs = search needs
 
--- src/reader.rt:130:1
 returns-6 : tie.Need-returns-6
 unfolding stepOf
 returns-6 c = simp (ne-eqb _ _ (c .before .if5 .left), ne-eqb _ _ (c .before .before .if4 .left), ne-eqb _ _ (c .before .before .before .if3 .left), ne-eqb _ _ (c .before .before .before .before .before .if2 .left), ne-eqb _ _ (c .before .before .before .before .before .before .before .if1 .left), c .plain .ensures)

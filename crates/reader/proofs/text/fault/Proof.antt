@@ -7,10 +7,6 @@ use Prim.Native.Nat.{_-_, _+_}
 use mathlib.Core.Path.{_≡_, refl, sym, ap, _∙_}
 use Rattle.reader.proofs.text.fault.Statement.{statement}
 use Rattle.reader.proofs.text.fault.Tie as tie
-use Rattle.reader.proofs.text.fault.Reads as reads
-use Rattle.reader.proofs.text.fault.Lts as lts
-use Rattle.reader.proofs.reader.read.Reads as read-reads
-use Rattle.reader.proofs.reader.start.Reads as start-reads
 
 abbrev Inv-loop : tie.InvT-loop
 Inv-loop text r₀ i₀ r i = 0 + soundOf startOf text ≡ i + soundOf r (drop i text)
@@ -18,39 +14,30 @@ Inv-loop text r₀ i₀ r i = 0 + soundOf startOf text ≡ i + soundOf r (drop i
 abbrev μ-loop : tie.MeasureT-loop
 μ-loop text r₀ i₀ r i = length text - i
 
--- src/text.rt:26:9
 start-requires : tie.Need-start-requires Inv-loop μ-loop
 start-requires c κs = tt
 
--- src/text.rt:28:5
 loop-holds : tie.Need-loop-holds Inv-loop μ-loop
 loop-holds c = ap (λ (x : Reader). 0 + soundOf x (c .before .before .args .text .now)) (sym (c .start .ensures))
 
--- src/text.rt:29:17
 shared-slice-read-c : tie.Need-shared-slice-read-c Inv-loop μ-loop
 shared-slice-read-c c = omega arith
 
--- src/text.rt:30:9
 read-requires : tie.Need-read-requires Inv-loop μ-loop
 read-requires c κs = tt
 
--- src/text.rt:33:13
 returns : tie.Need-returns Inv-loop μ-loop
 returns c = sym (sym (none _) ∙ (c .before .before .before .before .before .before .loop .inv) ∙ fault-here _ _ _ (c .before .before .before .before .before .loop-test .taken) (c .before .before .before .read .ensures) (c .if1 .taken))
 
--- src/text.rt:35:9
 add-i : tie.Need-add-i Inv-loop μ-loop
 add-i c = omega arith
 
--- src/text.rt:28:5
 loop-less : tie.Need-loop-less Inv-loop μ-loop
 loop-less c = omega arith
 
--- src/text.rt:28:5
 loop-again : tie.Need-loop-again Inv-loop μ-loop
 loop-again c = (c .before .before .before .before .before .before .loop .inv) ∙ fault-next _ _ _ (c .before .before .before .before .before .loop-test .taken) (c .before .before .before .read .ensures) (c .if1 .left)
 
--- src/text.rt:23:1
 returns-2 : tie.Need-returns-2 Inv-loop μ-loop
 returns-2 c = sym (sym (none _) ∙ (c .before .loop .inv) ∙ fault-none _ _ _ (c .loop-test .left))
 

@@ -7,10 +7,6 @@ use Prim.Native.Nat.{_-_, _+_}
 use mathlib.Core.Path.{_≡_, refl, sym, ap, _∙_}
 use Rattle.reader.proofs.text.name_at.Statement.{statement}
 use Rattle.reader.proofs.text.name_at.Tie as tie
-use Rattle.reader.proofs.text.name_at.Reads as reads
-use Rattle.reader.proofs.text.name_at.Lts as lts
-use Rattle.reader.proofs.reader.read.Reads as read-reads
-use Rattle.reader.proofs.reader.start.Reads as start-reads
 
 abbrev Inv-loop : tie.InvT-loop
 Inv-loop text r₀ i₀ r i = 0 + unnamedOf startOf text ≡ i + unnamedOf r (drop i text)
@@ -18,39 +14,30 @@ Inv-loop text r₀ i₀ r i = 0 + unnamedOf startOf text ≡ i + unnamedOf r (dr
 abbrev μ-loop : tie.MeasureT-loop
 μ-loop text r₀ i₀ r i = length text - i
 
--- src/text.rt:44:9
 start-requires : tie.Need-start-requires Inv-loop μ-loop
 start-requires c κs = tt
 
--- src/text.rt:46:5
 loop-holds : tie.Need-loop-holds Inv-loop μ-loop
 loop-holds c = ap (λ (x : Reader). 0 + unnamedOf x (c .before .before .args .text .now)) (sym (c .start .ensures))
 
--- src/text.rt:49:13
 returns : tie.Need-returns Inv-loop μ-loop
 returns c = sym (sym (none _) ∙ (c .before .before .before .before .loop .inv) ∙ name-here _ _ _ (c .before .before .before .loop-test .taken) (c .if1 .taken))
 
--- src/text.rt:51:17
 shared-slice-read-c : tie.Need-shared-slice-read-c Inv-loop μ-loop
 shared-slice-read-c c = omega arith
 
--- src/text.rt:52:9
 read-requires : tie.Need-read-requires Inv-loop μ-loop
 read-requires c κs = tt
 
--- src/text.rt:53:9
 add-i : tie.Need-add-i Inv-loop μ-loop
 add-i c = omega arith
 
--- src/text.rt:46:5
 loop-less : tie.Need-loop-less Inv-loop μ-loop
 loop-less c = omega arith
 
--- src/text.rt:46:5
 loop-again : tie.Need-loop-again Inv-loop μ-loop
 loop-again c = (c .before .before .before .before .before .before .loop .inv) ∙ name-next _ _ _ (c .before .before .before .before .before .loop-test .taken) (c .read .ensures) (c .before .before .if1 .left)
 
--- src/text.rt:41:1
 returns-2 : tie.Need-returns-2 Inv-loop μ-loop
 returns-2 c = sym (sym (none _) ∙ (c .before .loop .inv) ∙ name-none _ _ _ (c .loop-test .left))
 

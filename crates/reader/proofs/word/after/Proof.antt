@@ -3,18 +3,13 @@ use Rattle.common.specs.Table.{find-none}
 use Rattle.reader.specs.Word.{afters}
 use Rattle.reader.proofs.word.after.Statement.{statement}
 use Rattle.reader.proofs.word.after.Tie as tie
-use Rattle.reader.proofs.word.after.Reads as reads
-use Rattle.reader.proofs.word.after.Lts as lts
 
--- src/word.rt:34:1
 returns : tie.Need-returns
 returns c = simp (c .match .keys1)
 
--- src/word.rt:34:1
 returns-2 : tie.Need-returns-2
 returns-2 c = simp (c .match .keys2)
 
--- src/word.rt:34:1
 returns-3 : tie.Need-returns-3
 returns-3 c = let a = c .before .args in sym (find-none Unit (afters) (a .form) (a .form) (c .match .rest))
 

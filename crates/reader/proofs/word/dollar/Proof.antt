@@ -3,24 +3,17 @@ use borrow.Author.Tests.{eq-eqb, ne-eqb}
 use borrow.Author.Needs.{needs}
 use Rattle.reader.proofs.word.dollar.Statement.{statement}
 use Rattle.reader.proofs.word.dollar.Tie as tie
-use Rattle.reader.proofs.word.dollar.Reads as reads
-use Rattle.reader.proofs.word.dollar.Lts as lts
-use Rattle.reader.proofs.word.blank.Reads as blank-reads
 
--- src/word.rt:86:22
 blank-requires : tie.Need-blank-requires
 blank-requires c κs = search needs
 
--- src/word.rt:86:40
 blank-requires-2 : tie.Need-blank-requires-2
 blank-requires-2 c κs = search needs
 
--- src/word.rt:83:1
 returns : tie.Need-returns
 unfolding dollarOf
 returns c = simp (eq-eqb _ _ (c .before .if1 .taken), c .blank .ensures)
 
--- src/word.rt:83:1
 returns-2 : tie.Need-returns-2
 unfolding dollarOf
 returns-2 c = simp (ne-eqb _ _ (c .before .if1 .left), c .blank2 .ensures)

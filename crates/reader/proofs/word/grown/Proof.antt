@@ -3,22 +3,16 @@ use native.Mathlib.Omega.{arith}
 use borrow.Author.Tests.{lt-ltb, le-ltb}
 use Rattle.reader.proofs.word.grown.Statement.{statement}
 use Rattle.reader.proofs.word.grown.Tie as tie
-use Rattle.reader.proofs.word.grown.Reads as reads
-use Rattle.reader.proofs.word.grown.Lts as lts
 
--- src/word.rt:59:16
 mul-result : tie.Need-mul-result
 mul-result c = omega (arith, product _ _ (c .if1 .taken) (c .before .fits .base .fits))
 
--- src/word.rt:59:16
 add-result : tie.Need-add-result
 add-result c = omega (arith, product _ _ (c .if1 .taken) (c .before .fits .base .fits))
 
--- src/word.rt:59:9
 returns : tie.Need-returns
 returns c = simp (lt-ltb _ _ (c .if1 .taken))
 
--- src/word.rt:55:1
 returns-2 : tie.Need-returns-2
 returns-2 c = simp (le-ltb _ _ (c .if1 .left))
 

@@ -3,10 +3,6 @@ use lib.ListN.{length}
 use native.Mathlib.Omega.{arith}
 use Rattle.textual.proofs.name.span_of.Statement.{statement}
 use Rattle.textual.proofs.name.span_of.Tie as tie
-use Rattle.textual.proofs.name.span_of.Reads as reads
-use Rattle.textual.proofs.name.span_of.Lts as lts
-use Rattle.reader.proofs.letter.sign.Reads as sign-reads
-use Rattle.textual.proofs.name.passed.Reads as passed-reads
 
 abbrev Inv-loop : tie.InvT-loop
 Inv-loop s p₀ i₀ p i = Unit
@@ -14,35 +10,27 @@ Inv-loop s p₀ i₀ p i = Unit
 abbrev μ-loop : tie.MeasureT-loop
 μ-loop s p₀ i₀ p i = length s - i
 
--- src/name.rt:41:5
 loop-holds : tie.Need-loop-holds Inv-loop μ-loop
 loop-holds c = tt
 
--- src/name.rt:42:22
 shared-slice-read-sign : tie.Need-shared-slice-read-sign Inv-loop μ-loop
 shared-slice-read-sign c = omega arith
 
--- src/name.rt:42:13
 sign-requires : tie.Need-sign-requires Inv-loop μ-loop
 sign-requires c κs = tt
 
--- src/name.rt:44:9
 add-i : tie.Need-add-i Inv-loop μ-loop
 add-i c = omega arith
 
--- src/name.rt:45:9
 passed-requires : tie.Need-passed-requires Inv-loop μ-loop
 passed-requires c κs = tt
 
--- src/name.rt:41:5
 loop-less : tie.Need-loop-less Inv-loop μ-loop
 loop-less c = omega arith
 
--- src/name.rt:41:5
 loop-again : tie.Need-loop-again Inv-loop μ-loop
 loop-again c = tt
 
--- src/name.rt:34:1
 returns : tie.Need-returns Inv-loop μ-loop
 returns c = tt
 

@@ -3,10 +3,6 @@ use lib.ListN.{length}
 use native.Mathlib.Omega.{arith}
 use Rattle.textual.proofs.spot.spot_of.Statement.{statement}
 use Rattle.textual.proofs.spot.spot_of.Tie as tie
-use Rattle.textual.proofs.spot.spot_of.Reads as reads
-use Rattle.textual.proofs.spot.spot_of.Lts as lts
-use Rattle.reader.proofs.letter.sign.Reads as sign-reads
-use Rattle.textual.proofs.spot.passed.Reads as passed-reads
 
 abbrev Inv-loop : tie.InvT-loop
 Inv-loop text p₀ i₀ p i = Unit
@@ -14,35 +10,27 @@ Inv-loop text p₀ i₀ p i = Unit
 abbrev μ-loop : tie.MeasureT-loop
 μ-loop text p₀ i₀ p i = length text - i
 
--- src/spot.rt:29:5
 loop-holds : tie.Need-loop-holds Inv-loop μ-loop
 loop-holds c = tt
 
--- src/spot.rt:30:22
 shared-slice-read-sign : tie.Need-shared-slice-read-sign Inv-loop μ-loop
 shared-slice-read-sign c = omega arith
 
--- src/spot.rt:30:13
 sign-requires : tie.Need-sign-requires Inv-loop μ-loop
 sign-requires c κs = tt
 
--- src/spot.rt:31:9
 add-i : tie.Need-add-i Inv-loop μ-loop
 add-i c = omega arith
 
--- src/spot.rt:32:9
 passed-requires : tie.Need-passed-requires Inv-loop μ-loop
 passed-requires c κs = tt
 
--- src/spot.rt:29:5
 loop-less : tie.Need-loop-less Inv-loop μ-loop
 loop-less c = omega arith
 
--- src/spot.rt:29:5
 loop-again : tie.Need-loop-again Inv-loop μ-loop
 loop-again c = tt
 
--- src/spot.rt:26:1
 returns : tie.Need-returns Inv-loop μ-loop
 returns c = tt
 

@@ -1,0 +1,55 @@
+use Rattle.append.proofs.Laws.{puts-next, puts-end}
+use Rattle.append.specs.Sheet.{Sheet, sheet, puts}
+use native.Mathlib.Omega.{arith}
+use lib.ListN.{length, drop}
+use mathlib.Core.List.{List}
+use Prim.Native.Nat.{_-_, _≤_}
+use mathlib.Core.Path.{_≡_, refl, sym, ap, _∙_}
+use Rattle.append.proofs.put.Statement.{statement}
+use Rattle.append.proofs.put.Tie as tie
+
+abbrev Inv-loop : tie.InvT-loop
+Inv-loop out₀ at src to₀ i₀ out to i =
+    (length out ≡ length out₀) × (puts (sheet out₀ at) src ≡ puts (sheet out to) (drop i src))
+
+abbrev μ-loop : tie.MeasureT-loop
+μ-loop out₀ at src to₀ i₀ out to i = length src - i
+
+loop-holds : tie.Need-loop-holds Inv-loop μ-loop
+loop-holds c = (refl, refl)
+
+shared-slice-read-byte : tie.Need-shared-slice-read-byte Inv-loop μ-loop
+shared-slice-read-byte c = omega arith
+
+push-byte-requires : tie.Need-push-byte-requires Inv-loop μ-loop
+push-byte-requires c κs = tt
+
+add-i : tie.Need-add-i Inv-loop μ-loop
+add-i c = omega arith
+
+loop-less : tie.Need-loop-less Inv-loop μ-loop
+loop-less c = omega arith
+
+loop-again : tie.Need-loop-again Inv-loop μ-loop
+loop-again c = ((c .before .before .push-byte .kept .0) ∙ (c .before .before .before .before .before .before .loop .inv .0), (c .before .before .before .before .before .before .loop .inv .1) ∙ puts-next _ _ _ (c .before .before .before .before .before .loop-test .taken) (c .before .before .push-byte .ensures))
+
+same-length : tie.Need-same-length Inv-loop μ-loop
+same-length c = (c .before .loop .inv .0)
+
+returns : tie.Need-returns Inv-loop μ-loop
+returns c = sym ((c .before .loop .inv .1) ∙ puts-end _ _ _ (c .loop-test .left))
+
+pub put-spec : {M : Type 1} → statement M
+put-spec =
+    tie.close
+    (tie.spec
+    Inv-loop
+    μ-loop
+    loop-holds
+    shared-slice-read-byte
+    push-byte-requires
+    add-i
+    loop-less
+    loop-again
+    same-length
+    returns)

@@ -1,0 +1,87 @@
+-- One character and a whole text, gathered; the parts of a file, bound.
+use Prim.Native.Nat.{ℕ, suc, _+_, _≤_, _<_}
+use mathlib.Core.List.{List, [], _∷_, _++_}
+use mathlib.Core.Bool.{Bool, true, false}
+use mathlib.Core.Path.{_≡_, refl, sym, ap, subst, _∙_}
+use native.Mathlib.Numerals.{add-one}
+use lib.ListN.{length, drop, getD, drop-of-length-le, replicate}
+use lib.Seq.{drop-cons}
+use Rattle.common.specs.Pick.{pick}
+use Rattle.append.specs.Sheet.{Sheet, sheet, puts}
+use Rattle.lister.proofs.Join.{then}
+use Rattle.reader.specs.declared.reader.Reader.{Reader}
+use Rattle.reader.specs.Reader.{startOf, readOf}
+use Rattle.assembler.specs.Desk.{State, frontOf, romOf, scriptOf, stepped, runs, opened, gathered}
+use Rattle.assembler.specs.Bind.{sizeOf, fillSize, contentsText, bound}
+use Rattle.assembler.specs.Assemble.{readyOf, checked, finished, shownOf, said, assembled}
+
+abbrev made : Reader → Sheet → Sheet → Sheet → State
+made r f o s = record { reader = r; front = f; rom = o; script = s }
+
+pub stepped-by : (file : List ℕ) (k : State) (c : ℕ) {r : Reader} {f o s : Sheet} → r ≡ readOf (k .reader) c
+    → f ≡ puts (k .front) (frontOf (r .draft)) → o ≡ puts (k .rom) (romOf file (r .draft)) → s ≡ puts (k .script) (scriptOf (r .draft))
+    → made r f o s ≡ stepped file k c
+unfolding stepped
+stepped-by file k c e p q t = simp (p, q, t, e)
+
+-- two texts one after the other
+pub runs-append : (file : List ℕ) (k : State) (a b : List ℕ) → runs file k (a ++ b) ≡ runs file (runs file k a) b
+unfolding runs
+runs-append file k [] b = refl
+runs-append file k (c ∷ a) b = runs-append file (stepped file k c) a b
+
+pub runs-next : (file : List ℕ) (k : State) {t : State} (l : List ℕ) (i : ℕ) → i < length l → t ≡ stepped file k (getD l i 0)
+    → runs file k (drop i l) ≡ runs file t (drop (i + 1) l)
+unfolding runs
+runs-next file k l i h e = rw (add-one, drop-cons l i 0 h, e)
+
+pub runs-end : (file : List ℕ) (k : State) (l : List ℕ) (i : ℕ) → length l ≤ i → runs file k (drop i l) ≡ k
+unfolding runs
+runs-end file k l i h = rw (drop-of-length-le l h)
+
+-- contents, settings and fill, ROM, script
+pub bound-by : (s : Sheet) {t u v w : Sheet} (front rom script : List ℕ) {x y z : ℕ} → x ≡ fillSize (length front)
+    → y ≡ sizeOf (length rom) → z ≡ sizeOf (length script) → t ≡ puts s (contentsText x y z) → u ≡ puts t front → v ≡ puts u rom
+    → w ≡ puts v script → w ≡ puts s (bound front rom script)
+unfolding bound
+bound-by s front rom script {x} {y} {z} ex ey ez p q r e =
+    then s (contentsText x y z) (front ++ (rom ++ script)) p (then _ front (rom ++ script) q (then _ rom script r e))
+    ∙ simp (ex, ey, ez)
+
+-- the bound file, checked
+pub finished-by : (out front rom script : List ℕ) {l : List ℕ} {n m : ℕ} → sheet l n ≡ puts (sheet out 0) (bound front rom script)
+    → m ≡ checked l n → sheet l m ≡ finished out front rom script
+unfolding finished
+finished-by out front rom script e q = rw q (ap (λ (p : Sheet). sheet (p .text) (checked (p .text) (p .at))) e)
+
+pub gathered-by : (file f o s text : List ℕ) {r : Reader} {a b : State} → r ≡ startOf → a ≡ runs file (made r (sheet f 0) (sheet o 0) (sheet s 0)) text
+    → b ≡ stepped file a 10 → b ≡ gathered file (opened f o s) text
+unfolding gathered
+gathered-by file f o s text e p q =
+    q
+    ∙ ap (λ (x : State). stepped file x 10)
+    (p ∙ ap (λ (x : Reader). runs file (made x (sheet f 0) (sheet o 0) (sheet s 0)) text) e)
+
+-- what is left of a text that says s
+abbrev left : List ℕ → State → Sheet
+left out s = pick (readyOf (s .reader .draft)) (finished out (shownOf (s .front)) (shownOf (s .rom)) (shownOf (s .script))) (sheet out 0)
+
+module _ (out text file : List ℕ) (s : State) (e : s ≡ said file text) where
+  pub assembled-ready : {a b c : List ℕ} {w : Sheet} {t : Bool} → t ≡ readyOf (s .reader .draft) → t ≡ true → a ≡ shownOf (s .front)
+      → b ≡ shownOf (s .rom) → c ≡ shownOf (s .script) → w ≡ finished out a b c → w ≡ assembled out text file
+  unfolding assembled
+  assembled-ready {a} {b} {c} {w} p q x y z h =
+      let there : w ≡ left out s = rw (sym p ∙ q) (h ∙ simp (x, y, z)) in
+      there ∙ ap (left out) e
+
+  pub assembled-not : {t : Bool} → t ≡ readyOf (s .reader .draft) → t ≡ false → sheet out 0 ≡ assembled out text file
+  unfolding assembled
+  assembled-not p q =
+      let there : sheet out 0 ≡ left out s = rw (sym p ∙ q) in
+      there ∙ ap (left out) e
+
+-- fresh buffers
+pub said-by : (file text : List ℕ) {s : State} → s ≡ gathered file (opened (replicate 4099 0) (replicate 65537 0) (replicate 65537 0)) text
+    → s ≡ said file text
+unfolding said
+said-by file text e = e

@@ -1,0 +1,116 @@
+-- Digits that are written and read again.
+use Prim.Native.Nat.{ℕ, _+_, _-_, _*_, _/_, _%_, _≤_, _<_}
+use mathlib.Core.Bool.{Bool, true, false}
+use mathlib.Core.List.{List, _∷_}
+use mathlib.Core.Path.{_≡_, refl, _∙_}
+use native.Mathlib.Omega.{arith}
+use lib.Dec.{ltb}
+use borrow.Author.Tests.{lt-ltb, ltb-true, ltb-false, ne-eqb}
+use Rattle.common.specs.Pick.{pick}
+use Rattle.common.specs.Range.{inside, above}
+use Rattle.reader.specs.declared.reader.Reader.{Reader}
+use Rattle.reader.specs.declared.word.Word.{Word}
+use Rattle.reader.specs.declared.draft.Draft.{Draft}
+use Rattle.reader.specs.Letter.{signOf, digitOf}
+use Rattle.reader.specs.Word.{word, letterOf}
+use Rattle.reader.specs.Draft.{draft}
+use Rattle.reader.specs.Reader.{reader, plainOf, stepOf, readOf, reads}
+use Rattle.lister.specs.Digits.{glyphOf}
+
+-- the sign of a digit r below 16
+abbrev sign : Bool → ℕ → ℕ
+sign b r = pick b (r + 48) (r + 55)
+
+digit-back : (b : Bool) (r : ℕ) → ltb r 10 ≡ b → r < 16 → digitOf (sign b r) ≡ r
+unfolding digitOf
+digit-back true r h l =
+    let k : r < 10 = ltb-true r 10 h in
+    rw (inside 48 58 (r + 48) (omega arith) (omega arith)) (omega arith)
+digit-back false r h l =
+    let k : 10 ≤ r = ltb-false r 10 h in
+    rw (above 48 58 (r + 55) (omega arith), inside 65 91 (r + 55) (omega arith) (omega arith)) (omega arith)
+
+plain-sign : (c : ℕ) → (c ≡ 10 → ⊥) → (c ≡ 59 → ⊥) → (c ≡ 32 → ⊥) → (c ≡ 9 → ⊥) → (c ≡ 13 → ⊥) → (c ≡ 44 → ⊥) → (c ≡ 61 → ⊥)
+    → (c ≡ 36 → ⊥) → (c ≡ 58 → ⊥) → signOf c ≡ 0
+unfolding signOf
+plain-sign c n₁ n₂ n₃ n₄ n₅ n₆ n₇ n₈ n₉ =
+    rw (ne-eqb c 10 n₁, ne-eqb c 59 n₂, ne-eqb c 32 n₃, ne-eqb c 9 n₄, ne-eqb c 13 n₅, ne-eqb c 44 n₆, ne-eqb c 61 n₇, ne-eqb c 36 n₈, ne-eqb c 58 n₉)
+
+sign-back : (b : Bool) (r : ℕ) → ltb r 10 ≡ b → r < 16 → signOf (sign b r) ≡ 0
+sign-back true r h l =
+    let k : r < 10 = ltb-true r 10 h in
+    plain-sign (r + 48) (λ e. omega arith) (λ e. omega arith) (λ e. omega arith) (λ e. omega arith) (λ e. omega arith) (λ e. omega arith)
+    (λ e. omega arith) (λ e. omega arith) (λ e. omega arith)
+sign-back false r h l =
+    let k : 10 ≤ r = ltb-false r 10 h in
+    plain-sign (r + 55) (λ e. omega arith) (λ e. omega arith) (λ e. omega arith) (λ e. omega arith) (λ e. omega arith) (λ e. omega arith)
+    (λ e. omega arith) (λ e. omega arith) (λ e. omega arith)
+
+module _ (x : ℕ) where
+  small : x % 16 < 16
+  small = omega arith
+
+  pub glyph-digit : digitOf (glyphOf x) ≡ x % 16
+  unfolding glyphOf
+  glyph-digit = digit-back (ltb (x % 16) 10) (x % 16) refl small
+
+  pub glyph-sign : signOf (glyphOf x) ≡ 0
+  unfolding glyphOf
+  glyph-sign = sign-back (ltb (x % 16) 10) (x % 16) refl small
+
+-- a quiet draft
+module _ (p s k x₁ x₂ x₃ x₄ : ℕ) where
+  abbrev quiet : Draft
+  quiet = draft p s k x₁ x₂ x₃ x₄ 0
+
+  -- a digit of a number behind `$`, in form 3 (and 5 behind a colon)
+  pub hex-3 : (t : List ℕ) (v b x : ℕ) → v < 72057594037927936
+      → reads (reader (word 3 v b) quiet) (glyphOf x ∷ t) ≡ reads (reader (word 3 (v * 16 + x % 16) b) quiet) t
+  unfolding reads readOf stepOf plainOf letterOf
+  hex-3 t v b x h = rw (glyph-sign x, glyph-digit x, lt-ltb (x % 16) 16 (small x), lt-ltb v 72057594037927936 h)
+
+  pub hex-2 : (t : List ℕ) (b x : ℕ) → reads (reader (word 2 0 b) quiet) (glyphOf x ∷ t) ≡ reads (reader (word 3 (x % 16) b) quiet) t
+  unfolding reads readOf stepOf plainOf letterOf
+  hex-2 t b x =
+      let z : 0 * 16 + x % 16 ≡ x % 16 = omega arith in
+      rw (glyph-sign x, glyph-digit x, lt-ltb (x % 16) 16 (small x), z)
+
+  pub hex-5 : (t : List ℕ) (v b x : ℕ) → v < 72057594037927936
+      → reads (reader (word 5 v b) quiet) (glyphOf x ∷ t) ≡ reads (reader (word 5 (v * 16 + x % 16) b) quiet) t
+  unfolding reads readOf stepOf plainOf letterOf
+  hex-5 t v b x h = rw (glyph-sign x, glyph-digit x, lt-ltb (x % 16) 16 (small x), lt-ltb v 72057594037927936 h)
+
+  pub hex-4 : (t : List ℕ) (b x : ℕ) → reads (reader (word 4 0 b) quiet) (glyphOf x ∷ t) ≡ reads (reader (word 5 (x % 16) b) quiet) t
+  unfolding reads readOf stepOf plainOf letterOf
+  hex-4 t b x =
+      let z : 0 * 16 + x % 16 ≡ x % 16 = omega arith in
+      rw (glyph-sign x, glyph-digit x, lt-ltb (x % 16) 16 (small x), z)
+
+  -- the two digits of a byte
+  pub byte-2 : (t : List ℕ) (b x : ℕ) → x < 256 → reads (reader (word 2 0 b) quiet) (glyphOf (x / 16) ∷ glyphOf x ∷ t) ≡ reads (reader (word 3 x b) quiet) t
+  byte-2 t b x h =
+      let e : x / 16 % 16 * 16 + x % 16 ≡ x = omega arith in
+      let l : x / 16 % 16 < 72057594037927936 = omega arith in
+      hex-2 (glyphOf x ∷ t) b (x / 16) ∙ hex-3 t (x / 16 % 16) b x l ∙ rw e
+
+  pub byte-3 : (t : List ℕ) (v b x : ℕ) → v < 65536 → x < 256
+      → reads (reader (word 3 v b) quiet) (glyphOf (x / 16) ∷ glyphOf x ∷ t) ≡ reads (reader (word 3 (v * 256 + x) b) quiet) t
+  byte-3 t v b x k h =
+      let e : (v * 16 + x / 16 % 16) * 16 + x % 16 ≡ v * 256 + x = omega arith in
+      let l : v < 72057594037927936 = omega arith in
+      let m : v * 16 + x / 16 % 16 < 72057594037927936 = omega arith in
+      hex-3 (glyphOf x ∷ t) v b (x / 16) l ∙ hex-3 t (v * 16 + x / 16 % 16) b x m ∙ rw e
+
+  pub byte-4 : (t : List ℕ) (b x : ℕ) → x < 256 → reads (reader (word 4 0 b) quiet) (glyphOf (x / 16) ∷ glyphOf x ∷ t) ≡ reads (reader (word 5 x b) quiet) t
+  byte-4 t b x h =
+      let e : x / 16 % 16 * 16 + x % 16 ≡ x = omega arith in
+      let l : x / 16 % 16 < 72057594037927936 = omega arith in
+      hex-4 (glyphOf x ∷ t) b (x / 16) ∙ hex-5 t (x / 16 % 16) b x l ∙ rw e
+
+  pub byte-5 : (t : List ℕ) (v b x : ℕ) → v < 65536 → x < 256
+      → reads (reader (word 5 v b) quiet) (glyphOf (x / 16) ∷ glyphOf x ∷ t) ≡ reads (reader (word 5 (v * 256 + x) b) quiet) t
+  byte-5 t v b x k h =
+      let e : (v * 16 + x / 16 % 16) * 16 + x % 16 ≡ v * 256 + x = omega arith in
+      let l : v < 72057594037927936 = omega arith in
+      let m : v * 16 + x / 16 % 16 < 72057594037927936 = omega arith in
+      hex-5 (glyphOf x ∷ t) v b (x / 16) l ∙ hex-5 t (v * 16 + x / 16 % 16) b x m ∙ rw e

@@ -1,0 +1,1 @@
+// What list writes, assemble reads back: the laws of both texts (proofs/).

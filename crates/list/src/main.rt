@@ -1,0 +1,4 @@
+// Turns the bench file on standard input into text on standard output.
+fn main() {
+    textual::list();
+}

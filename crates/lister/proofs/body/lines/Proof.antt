@@ -1,0 +1,65 @@
+use Rattle.lister.proofs.Loops.{lines-start, lines-next, lines-end}
+use Rattle.lister.specs.Body.{linesFrom, linesText}
+use Rattle.append.specs.Sheet.{sheet, puts}
+use borrow.Author.Needs.{needs}
+use native.Mathlib.Omega.{arith}
+use lib.ListN.{length, drop}
+use Prim.Native.Nat.{_-_}
+use mathlib.Core.Path.{_≡_, refl, sym, ap, _∙_}
+use Rattle.lister.proofs.body.lines.Statement.{statement}
+use Rattle.lister.proofs.body.lines.Tie as tie
+
+abbrev Inv-loop : tie.InvT-loop
+Inv-loop out₀ at word s n to₀ k₀ out to k =
+    (length out ≡ length out₀) × (puts (sheet out₀ at) (linesFrom word s n 0) ≡ puts (sheet out to) (linesFrom word s (n - k) k))
+
+abbrev μ-loop : tie.MeasureT-loop
+μ-loop out₀ at word s n to₀ k₀ out to k = n - k
+
+add-n : tie.Need-add-n Inv-loop μ-loop
+add-n c = omega arith
+
+loop-holds : tie.Need-loop-holds Inv-loop μ-loop
+loop-holds c = (refl, lines-start _ _ _ _)
+
+mul-part : tie.Need-mul-part Inv-loop μ-loop
+mul-part c = omega arith
+
+part-requires : tie.Need-part-requires Inv-loop μ-loop
+part-requires c κs = tt
+
+line-requires : tie.Need-line-requires Inv-loop μ-loop
+line-requires c κs = tt
+
+add-k : tie.Need-add-k Inv-loop μ-loop
+add-k c = omega arith
+
+loop-less : tie.Need-loop-less Inv-loop μ-loop
+loop-less c = omega arith
+
+loop-again : tie.Need-loop-again Inv-loop μ-loop
+loop-again c = ((c .before .before .line .kept .0) ∙ (c .before .before .before .before .before .before .loop .inv .0), (c .before .before .before .before .before .before .loop .inv .1) ∙ lines-next _ _ _ _ _ (c .before .before .before .before .before .loop-test .taken) (c .before .before .before .before .part .ensures) (c .before .before .line .ensures))
+
+same-length : tie.Need-same-length Inv-loop μ-loop
+same-length c = (c .before .loop .inv .0)
+
+returns : tie.Need-returns Inv-loop μ-loop
+unfolding linesText
+returns c = sym ((c .before .loop .inv .1) ∙ lines-end _ _ _ _ _ (c .loop-test .left))
+
+pub lines-spec : {M : Type 1} → statement M
+lines-spec =
+    tie.close
+    (tie.spec
+    Inv-loop
+    μ-loop
+    add-n
+    loop-holds
+    mul-part
+    part-requires
+    line-requires
+    add-k
+    loop-less
+    loop-again
+    same-length
+    returns)

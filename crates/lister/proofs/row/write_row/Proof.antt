@@ -1,0 +1,156 @@
+use Rattle.append.proofs.Laws.{puts-none}
+use mathlib.Core.Path.{_∙_, sym}
+use Rattle.lister.specs.Row.{rowText}
+use borrow.Author.Tests.{eq-eqb, ne-eqb}
+use borrow.Author.Needs.{needs}
+use Rattle.lister.proofs.row.write_row.Statement.{statement}
+use Rattle.lister.proofs.row.write_row.Tie as tie
+
+byte-requires : tie.Need-byte-requires
+byte-requires c κs = search needs
+
+byte-requires-2 : tie.Need-byte-requires-2
+byte-requires-2 c κs = search needs
+
+byte-requires-3 : tie.Need-byte-requires-3
+byte-requires-3 c κs = search needs
+
+byte-requires-4 : tie.Need-byte-requires-4
+byte-requires-4 c κs = search needs
+
+byte-requires-5 : tie.Need-byte-requires-5
+byte-requires-5 c κs = search needs
+
+two-requires : tie.Need-two-requires
+two-requires c κs = search needs
+
+cycles-requires : tie.Need-cycles-requires
+cycles-requires c κs = search needs
+
+same-length : tie.Need-same-length
+same-length c = search needs
+
+returns : tie.Need-returns
+unfolding rowText
+returns c = (c .before .before .cycles .ensures) ∙ simp (sym (c .before .before .before .before .before .before .before .before .before .before .byte .ensures) ∙ (c .before .before .before .before .if1 .taken), (c .before .before .before .before .before .two .ensures), (c .before .before .before .before .before .before .before .byte4 .ensures), (c .before .before .before .before .before .before .byte5 .ensures))
+
+read-text-requires : tie.Need-read-text-requires
+read-text-requires c κs = search needs
+
+slice-aggregate-put : tie.Need-slice-aggregate-put
+slice-aggregate-put c = search needs
+
+put-requires : tie.Need-put-requires
+put-requires c κs = search needs
+
+same-length-2 : tie.Need-same-length-2
+same-length-2 c = search needs
+
+returns-2 : tie.Need-returns-2
+unfolding rowText
+returns-2 c = (c .before .before .put .ensures) ∙ simp (sym (c .before .before .before .before .before .before .before .before .before .before .before .before .before .byte .ensures) ∙ (c .before .before .before .before .before .before .if2 .taken), (c .before .before .before .before .before .read-text .ensures), (c .before .before .before .before .before .before .before .before .before .before .before .before .byte2 .ensures), (c .before .before .before .before .before .before .before .before .before .before .before .byte3 .ensures), (c .before .before .before .before .before .before .before .before .before .before .byte4 .ensures))
+
+write-text-requires : tie.Need-write-text-requires
+write-text-requires c κs = search needs
+
+slice-aggregate-put-2 : tie.Need-slice-aggregate-put-2
+slice-aggregate-put-2 c = search needs
+
+put-requires-2 : tie.Need-put-requires-2
+put-requires-2 c κs = search needs
+
+same-length-3 : tie.Need-same-length-3
+same-length-3 c = search needs
+
+returns-3 : tie.Need-returns-3
+unfolding rowText
+returns-3 c = (c .before .before .put2 .ensures) ∙ simp (sym (c .before .before .before .before .before .before .before .before .before .before .before .before .before .before .byte .ensures) ∙ (c .before .before .before .before .before .before .if3 .taken), (c .before .before .before .before .before .write-text .ensures), (c .before .before .before .before .before .before .before .before .before .before .before .before .before .byte2 .ensures), (c .before .before .before .before .before .before .before .before .before .before .before .before .byte3 .ensures), (c .before .before .before .before .before .before .before .before .before .before .before .byte4 .ensures), (c .before .before .before .before .before .before .before .before .before .before .byte5 .ensures))
+
+pad-requires : tie.Need-pad-requires
+pad-requires c κs = search needs
+
+same-length-4 : tie.Need-same-length-4
+same-length-4 c = search needs
+
+returns-4 : tie.Need-returns-4
+unfolding rowText
+returns-4 c = (c .before .before .pad .ensures) ∙ simp (sym (c .before .before .before .before .before .before .before .before .before .before .before .before .before .byte .ensures) ∙ (c .before .before .before .before .if4 .taken), (c .before .before .before .before .before .before .before .before .before .before .before .before .byte2 .ensures), (c .before .before .before .before .before .before .before .before .before .before .before .byte3 .ensures), (c .before .before .before .before .before .before .before .before .before .before .byte4 .ensures))
+
+plug-requires : tie.Need-plug-requires
+plug-requires c κs = search needs
+
+same-length-5 : tie.Need-same-length-5
+same-length-5 c = search needs
+
+returns-5 : tie.Need-returns-5
+unfolding rowText
+returns-5 c = (c .before .before .plug .ensures) ∙ simp (sym (c .before .before .before .before .before .before .before .before .before .before .before .before .before .before .byte .ensures) ∙ (c .before .before .before .before .if5 .taken), (c .before .before .before .before .before .before .before .before .before .before .before .before .before .byte2 .ensures), (c .before .before .before .before .before .before .before .before .before .before .before .before .byte3 .ensures))
+
+answer-text-requires : tie.Need-answer-text-requires
+answer-text-requires c κs = search needs
+
+slice-aggregate-put-3 : tie.Need-slice-aggregate-put-3
+slice-aggregate-put-3 c = search needs
+
+put-requires-3 : tie.Need-put-requires-3
+put-requires-3 c κs = search needs
+
+same-length-6 : tie.Need-same-length-6
+same-length-6 c = search needs
+
+returns-6 : tie.Need-returns-6
+unfolding rowText
+returns-6 c = (c .before .before .put3 .ensures) ∙ simp (sym (c .before .before .before .before .before .before .before .before .before .before .before .before .before .before .before .before .before .byte .ensures) ∙ (c .before .before .before .before .before .before .if6 .taken), (c .before .before .before .before .before .answer-text .ensures), (c .before .before .before .before .before .before .before .before .before .before .before .before .before .before .before .byte3 .ensures), (c .before .before .before .before .before .before .before .before .before .before .before .before .before .before .byte4 .ensures), (c .before .before .before .before .before .before .before .before .before .before .before .before .before .byte5 .ensures))
+
+back-requires : tie.Need-back-requires
+back-requires c κs = search needs
+
+same-length-7 : tie.Need-same-length-7
+same-length-7 c = search needs
+
+returns-7 : tie.Need-returns-7
+unfolding rowText
+returns-7 c = (c .before .before .back .ensures) ∙ simp (sym (c .before .before .before .before .before .before .before .before .before .before .before .before .before .before .before .before .byte .ensures) ∙ (c .before .before .before .before .if7 .taken), (c .before .before .before .before .before .before .before .before .before .before .before .two .ensures))
+
+returns-8 : tie.Need-returns-8
+unfolding rowText
+returns-8 c = simp (ne-eqb _ _ (λ e. (c .before .before .before .before .before .before .if1 .left) ((c .before .before .before .before .before .before .before .before .before .before .before .before .byte .ensures) ∙ e)), ne-eqb _ _ (λ e. (c .before .before .before .before .before .if2 .left) ((c .before .before .before .before .before .before .before .before .before .before .before .before .byte .ensures) ∙ e)), ne-eqb _ _ (λ e. (c .before .before .before .before .if3 .left) ((c .before .before .before .before .before .before .before .before .before .before .before .before .byte .ensures) ∙ e)), ne-eqb _ _ (λ e. (c .before .before .before .if4 .left) ((c .before .before .before .before .before .before .before .before .before .before .before .before .byte .ensures) ∙ e)), ne-eqb _ _ (λ e. (c .before .before .if5 .left) ((c .before .before .before .before .before .before .before .before .before .before .before .before .byte .ensures) ∙ e)), ne-eqb _ _ (λ e. (c .before .if6 .left) ((c .before .before .before .before .before .before .before .before .before .before .before .before .byte .ensures) ∙ e)), ne-eqb _ _ (λ e. (c .if7 .left) ((c .before .before .before .before .before .before .before .before .before .before .before .before .byte .ensures) ∙ e))) (sym (puts-none _))
+
+pub write-row-spec : {M : Type 1} → statement M
+write-row-spec =
+    tie.close
+    (tie.spec
+    byte-requires
+    byte-requires-2
+    byte-requires-3
+    byte-requires-4
+    byte-requires-5
+    two-requires
+    cycles-requires
+    same-length
+    returns
+    read-text-requires
+    slice-aggregate-put
+    put-requires
+    same-length-2
+    returns-2
+    write-text-requires
+    slice-aggregate-put-2
+    put-requires-2
+    same-length-3
+    returns-3
+    pad-requires
+    same-length-4
+    returns-4
+    plug-requires
+    same-length-5
+    returns-5
+    answer-text-requires
+    slice-aggregate-put-3
+    put-requires-3
+    same-length-6
+    returns-6
+    back-requires
+    same-length-7
+    returns-7
+    returns-8)

@@ -1,0 +1,4 @@
+pub mod Digits
+pub mod Row
+pub mod Body
+pub mod List

@@ -1,0 +1,94 @@
+-- A row of a script as a line of text, in characters' ASCII codes.
+use Prim.Native.Nat.{ℕ, _/_}
+use mathlib.Core.List.{List, [], _∷_, _++_}
+use lib.Dec.{eqb}
+use Rattle.common.specs.Pick.{pick}
+use Rattle.common.specs.Table.{Entry, find, at}
+use Rattle.benchfile.specs.Bytes.{byteAt, twoAt}
+use Rattle.lister.specs.Digits.{glyphOf, decimalOf}
+
+-- `read $00:4302`
+abbrev pub readText : ℕ → ℕ → ℕ → List ℕ
+readText bank low high = 114 ∷ 101 ∷ 97 ∷ 100 ∷ 32 ∷ 36 ∷ glyphOf (bank / 16) ∷ glyphOf bank ∷ 58 ∷ glyphOf (high / 16) ∷ glyphOf high ∷ glyphOf (low / 16) ∷ glyphOf low ∷ 10 ∷ []
+
+-- `write $00:4302 = $10`
+abbrev pub writeText : ℕ → ℕ → ℕ → ℕ → List ℕ
+writeText bank low high byte = 119 ∷ 114 ∷ 105 ∷ 116 ∷ 101 ∷ 32 ∷ 36 ∷ glyphOf (bank / 16) ∷ glyphOf bank ∷ 58 ∷ glyphOf (high / 16) ∷ glyphOf high ∷ glyphOf (low / 16) ∷ glyphOf low ∷ 32 ∷ 61 ∷ 32 ∷ 36 ∷ glyphOf (byte / 16) ∷ glyphOf byte ∷ 10 ∷ []
+
+-- `answer $2134 = $5A`
+abbrev pub answerText : ℕ → ℕ → ℕ → List ℕ
+answerText low high byte = 97 ∷ 110 ∷ 115 ∷ 119 ∷ 101 ∷ 114 ∷ 32 ∷ 36 ∷ glyphOf (high / 16) ∷ glyphOf high ∷ glyphOf (low / 16) ∷ glyphOf low ∷ 32 ∷ 61 ∷ 32 ∷ 36 ∷ glyphOf (byte / 16) ∷ glyphOf byte ∷ 10 ∷ []
+
+-- ` $8000`, the end of a pad's line
+abbrev pub wordText : ℕ → ℕ → List ℕ
+wordText low high = 32 ∷ 36 ∷ glyphOf (high / 16) ∷ glyphOf high ∷ glyphOf (low / 16) ∷ glyphOf low ∷ 10 ∷ []
+
+-- `cycles `
+abbrev pub cyclesWord : List ℕ
+cyclesWord = 99 ∷ 121 ∷ 99 ∷ 108 ∷ 101 ∷ 115 ∷ 32 ∷ []
+
+-- ` event `
+abbrev pub eventWord : List ℕ
+eventWord = 32 ∷ 101 ∷ 118 ∷ 101 ∷ 110 ∷ 116 ∷ 32 ∷ []
+
+-- ` line`
+abbrev pub lineWord : List ℕ
+lineWord = 32 ∷ 108 ∷ 105 ∷ 110 ∷ 101 ∷ []
+
+-- ` timer`
+abbrev pub timerWord : List ℕ
+timerWord = 32 ∷ 116 ∷ 105 ∷ 109 ∷ 101 ∷ 114 ∷ []
+
+-- `pad `
+abbrev pub padWord : List ℕ
+padWord = 112 ∷ 97 ∷ 100 ∷ 32 ∷ []
+
+-- `plug `
+abbrev pub plugWord : List ℕ
+plugWord = 112 ∷ 108 ∷ 117 ∷ 103 ∷ 32 ∷ []
+
+-- ` on`
+abbrev pub onWord : List ℕ
+onWord = 32 ∷ 111 ∷ 110 ∷ 10 ∷ []
+
+-- ` off`
+abbrev pub offWord : List ℕ
+offWord = 32 ∷ 111 ∷ 102 ∷ 102 ∷ 10 ∷ []
+
+-- `back `
+abbrev pub backWord : List ℕ
+backWord = 98 ∷ 97 ∷ 99 ∷ 107 ∷ 32 ∷ []
+
+-- the options of a cycles row: an event that is not 0, line due, timer
+unfoldable pub eventText : ℕ → List ℕ
+eventText e = pick (eqb e 0) [] (eventWord ++ decimalOf e)
+
+unfoldable pub flagsText : ℕ → List ℕ
+flagsText f = find (at 1 lineWord ∷ at 2 timerWord ∷ at 3 (lineWord ++ timerWord) ∷ []) f []
+
+unfoldable pub cyclesText : ℕ → ℕ → ℕ → List ℕ
+cyclesText n e f = cyclesWord ++ (decimalOf n ++ (eventText e ++ (flagsText f ++ (10 ∷ []))))
+
+unfoldable pub padText : ℕ → ℕ → ℕ → List ℕ
+padText port l h = padWord ++ (decimalOf port ++ wordText l h)
+
+unfoldable pub plugText : ℕ → ℕ → List ℕ
+plugText port on = plugWord ++ (decimalOf port ++ pick (eqb on 1) onWord offWord)
+
+unfoldable pub backText : ℕ → List ℕ
+backText n = backWord ++ (decimalOf n ++ (10 ∷ []))
+
+-- the line of a row, by its kind
+abbrev pub texts : List ℕ → List (Entry (List ℕ))
+texts b =
+    at 1 (cyclesText (twoAt b 1) (byteAt b 3) (byteAt b 4))
+    ∷ at 2 (readText (byteAt b 1) (byteAt b 2) (byteAt b 3))
+    ∷ at 3 (writeText (byteAt b 1) (byteAt b 2) (byteAt b 3) (byteAt b 4))
+    ∷ at 4 (padText (byteAt b 1) (byteAt b 2) (byteAt b 3))
+    ∷ at 5 (plugText (byteAt b 1) (byteAt b 2))
+    ∷ at 6 (answerText (byteAt b 2) (byteAt b 3) (byteAt b 4))
+    ∷ at 7 (backText (twoAt b 1))
+    ∷ []
+
+unfoldable pub rowText : List ℕ → List ℕ
+rowText b = find (texts b) (byteAt b 0) []

@@ -1,0 +1,34 @@
+use mathlib.Core.Path.{_≡_, sym}
+use Rattle.common.specs.Table.{find-none}
+use Rattle.reader.specs.Line.{leasts}
+use Rattle.reader.proofs.line.least.Statement.{statement}
+use Rattle.reader.proofs.line.least.Tie as tie
+
+returns : tie.Need-returns
+returns c = simp (c .match .keys1)
+
+returns-2 : tie.Need-returns-2
+returns-2 c = simp (c .match .keys2)
+
+returns-3 : tie.Need-returns-3
+returns-3 c = simp (c .match .keys3)
+
+returns-4 : tie.Need-returns-4
+returns-4 c = simp (c .match .keys4)
+
+returns-5 : tie.Need-returns-5
+returns-5 c = simp (c .match .keys5)
+
+returns-6 : tie.Need-returns-6
+returns-6 c = simp (c .match .keys6)
+
+returns-7 : tie.Need-returns-7
+returns-7 c = simp (c .match .keys7)
+
+returns-8 : tie.Need-returns-8
+returns-8 c = let a = c .before .args in sym (find-none Unit (leasts) (a .state) (0) (c .match .rest))
+
+pub least-spec : {M : Type 1} → statement M
+least-spec =
+    tie.close
+    (tie.spec returns returns-2 returns-3 returns-4 returns-5 returns-6 returns-7 returns-8)

@@ -1,0 +1,58 @@
+use Rattle.reader.specs.declared.reader.Reader.{Reader}
+use Rattle.reader.proofs.Walk.{none, fault-here, fault-next, fault-none}
+use Rattle.reader.specs.Reader.{startOf, soundOf}
+use native.Mathlib.Omega.{arith}
+use lib.ListN.{length, drop}
+use Prim.Native.Nat.{_-_, _+_}
+use mathlib.Core.Path.{_≡_, refl, sym, ap, _∙_}
+use Rattle.reader.proofs.text.fault.Statement.{statement}
+use Rattle.reader.proofs.text.fault.Tie as tie
+
+abbrev Inv-loop : tie.InvT-loop
+Inv-loop text r₀ i₀ r i = 0 + soundOf startOf text ≡ i + soundOf r (drop i text)
+
+abbrev μ-loop : tie.MeasureT-loop
+μ-loop text r₀ i₀ r i = length text - i
+
+start-requires : tie.Need-start-requires Inv-loop μ-loop
+start-requires c κs = tt
+
+loop-holds : tie.Need-loop-holds Inv-loop μ-loop
+loop-holds c = ap (λ (x : Reader). 0 + soundOf x (c .before .before .args .text .now)) (sym (c .start .ensures))
+
+shared-slice-read-c : tie.Need-shared-slice-read-c Inv-loop μ-loop
+shared-slice-read-c c = omega arith
+
+read-requires : tie.Need-read-requires Inv-loop μ-loop
+read-requires c κs = tt
+
+returns : tie.Need-returns Inv-loop μ-loop
+returns c = sym (sym (none _) ∙ (c .before .before .before .before .before .before .loop .inv) ∙ fault-here _ _ _ (c .before .before .before .before .before .loop-test .taken) (c .before .before .before .read .ensures) (c .if1 .taken))
+
+add-i : tie.Need-add-i Inv-loop μ-loop
+add-i c = omega arith
+
+loop-less : tie.Need-loop-less Inv-loop μ-loop
+loop-less c = omega arith
+
+loop-again : tie.Need-loop-again Inv-loop μ-loop
+loop-again c = (c .before .before .before .before .before .before .loop .inv) ∙ fault-next _ _ _ (c .before .before .before .before .before .loop-test .taken) (c .before .before .before .read .ensures) (c .if1 .left)
+
+returns-2 : tie.Need-returns-2 Inv-loop μ-loop
+returns-2 c = sym (sym (none _) ∙ (c .before .loop .inv) ∙ fault-none _ _ _ (c .loop-test .left))
+
+pub fault-spec : {M : Type 1} → statement M
+fault-spec =
+    tie.close
+    (tie.spec
+    Inv-loop
+    μ-loop
+    start-requires
+    loop-holds
+    shared-slice-read-c
+    read-requires
+    returns
+    add-i
+    loop-less
+    loop-again
+    returns-2)

@@ -1,0 +1,58 @@
+use Rattle.reader.specs.declared.reader.Reader.{Reader}
+use Rattle.reader.proofs.Walk.{none, name-here, name-next, name-none}
+use Rattle.reader.specs.Reader.{startOf, unnamedOf}
+use native.Mathlib.Omega.{arith}
+use lib.ListN.{length, drop}
+use Prim.Native.Nat.{_-_, _+_}
+use mathlib.Core.Path.{_≡_, refl, sym, ap, _∙_}
+use Rattle.reader.proofs.text.name_at.Statement.{statement}
+use Rattle.reader.proofs.text.name_at.Tie as tie
+
+abbrev Inv-loop : tie.InvT-loop
+Inv-loop text r₀ i₀ r i = 0 + unnamedOf startOf text ≡ i + unnamedOf r (drop i text)
+
+abbrev μ-loop : tie.MeasureT-loop
+μ-loop text r₀ i₀ r i = length text - i
+
+start-requires : tie.Need-start-requires Inv-loop μ-loop
+start-requires c κs = tt
+
+loop-holds : tie.Need-loop-holds Inv-loop μ-loop
+loop-holds c = ap (λ (x : Reader). 0 + unnamedOf x (c .before .before .args .text .now)) (sym (c .start .ensures))
+
+returns : tie.Need-returns Inv-loop μ-loop
+returns c = sym (sym (none _) ∙ (c .before .before .before .before .loop .inv) ∙ name-here _ _ _ (c .before .before .before .loop-test .taken) (c .if1 .taken))
+
+shared-slice-read-c : tie.Need-shared-slice-read-c Inv-loop μ-loop
+shared-slice-read-c c = omega arith
+
+read-requires : tie.Need-read-requires Inv-loop μ-loop
+read-requires c κs = tt
+
+add-i : tie.Need-add-i Inv-loop μ-loop
+add-i c = omega arith
+
+loop-less : tie.Need-loop-less Inv-loop μ-loop
+loop-less c = omega arith
+
+loop-again : tie.Need-loop-again Inv-loop μ-loop
+loop-again c = (c .before .before .before .before .before .before .loop .inv) ∙ name-next _ _ _ (c .before .before .before .before .before .loop-test .taken) (c .read .ensures) (c .before .before .if1 .left)
+
+returns-2 : tie.Need-returns-2 Inv-loop μ-loop
+returns-2 c = sym (sym (none _) ∙ (c .before .loop .inv) ∙ name-none _ _ _ (c .loop-test .left))
+
+pub name-at-spec : {M : Type 1} → statement M
+name-at-spec =
+    tie.close
+    (tie.spec
+    Inv-loop
+    μ-loop
+    start-requires
+    loop-holds
+    returns
+    shared-slice-read-c
+    read-requires
+    add-i
+    loop-less
+    loop-again
+    returns-2)

@@ -1,0 +1,98 @@
+// The programs assemble and list: read, call, write. What is wrong goes to standard error in one line, and nothing to standard output.
+pub mod message;
+pub mod name;
+pub mod spot;
+
+use assembler::assemble::assemble_text;
+use benchfile::check::file_check;
+use benchfile::part::part;
+use libc::STDERR_FILENO;
+use libc::STDIN_FILENO;
+use libc::STDOUT_FILENO;
+use lister::list::list_file;
+use message::report;
+use name::name_in;
+use reader::text::name_at;
+
+// A read that fails answers less than 0, and the end of a file 0.
+fn readable(fd: i32) -> bool {
+    let mut more = [0u8; 1];
+    libc::read(fd, &mut more) >= 0
+}
+
+// The bench file of a text, and the bytes of its ROM file.
+fn assembled(text: &[u8], rom: &[u8]) {
+    let mut out = [0u8; 65537];
+    let n = assemble_text(&mut out, text, rom);
+    if n == 0 {
+        report(text);
+        return;
+    }
+    if !io::write_all(STDOUT_FILENO, part(&out, 0, n)) {
+        os::fail(b"assemble: standard output");
+    }
+}
+
+// A ROM file over 65,536 bytes makes no bench.
+fn with_file(text: &[u8], name: &[u8]) {
+    let fd = os::open_read(name);
+    if fd < 0 {
+        os::fail(name);
+        return;
+    }
+    let mut rom = [0u8; 65537];
+    let n = io::read_full(fd, &mut rom);
+    if !readable(fd) {
+        os::fail(name);
+        return;
+    }
+    assembled(text, &rom[..n]);
+}
+
+fn with_rom(text: &[u8]) {
+    let name = name_in(text, name_at(text));
+    if name.len() == 0 {
+        assembled(text, name);
+    } else {
+        with_file(text, name);
+    }
+}
+
+pub fn assemble() {
+    let mut text = [0u8; 524289];
+    let n = io::read_full(STDIN_FILENO, &mut text);
+    if !readable(STDIN_FILENO) {
+        os::fail(b"assemble: standard input");
+        return;
+    }
+    if n == 524289 {
+        io::write_all(
+            STDERR_FILENO,
+            b"assemble: the text is longer than 524288 bytes\n",
+        );
+        return;
+    }
+    with_rom(&text[..n]);
+}
+
+fn listed(file: &[u8]) {
+    if file_check(file) != 0 {
+        io::write_all(STDERR_FILENO, b"list: standard input is no bench file\n");
+        return;
+    }
+    let mut out = [0u8; 327680];
+    let n = list_file(&mut out, file);
+    if !io::write_all(STDOUT_FILENO, part(&out, 0, n)) {
+        os::fail(b"list: standard output");
+    }
+}
+
+pub fn list() {
+    let mut file = [0u8; 65537];
+    let n = io::read_full(STDIN_FILENO, &mut file);
+    if !readable(STDIN_FILENO) {
+        os::fail(b"list: standard input");
+        return;
+    }
+    listed(&file[..n]);
+}

@@ -63,7 +63,10 @@ fn compare(seed: u64, count: u64) -> Result<Counts, String> {
             .map_err(|what| format!("seed {seed}, run {run}, at its end: {what}"))?;
         let now: u64 = counts.values().sum();
         if now / MILLION > done / MILLION {
-            eprintln!("seed {seed}: {run} runs, {now} calls without a difference so far");
+            eprintln!(
+                "seed {seed}: {} runs, {now} calls without a difference so far",
+                run + 1
+            );
         }
         done = now;
     }

@@ -6,20 +6,19 @@ use native.Mathlib.Omega.{arith}
 use Rattle.bench.specs.Calls.{desk, emptyBench}
 use Rattle.machine.proofs.FitLaws.{power-on-fits}
 use Rattle.machine.proofs.Ranges.{power-on-ok}
-use Rattle.registers.specs.Fit.{Word}
 use Rattle.rewind.proofs.Fresh.{Fresh, fresh-facts}
 use Rattle.rewind.proofs.Rewinds.{Inv, promised}
 use Rattle.rewind.specs.Promise.{Lent, Demand3}
 use Rattle.rewind.specs.Run.{stateOf}
 
-begin : (rom low high entries : List ℕ) (len bitcycles : ℕ) (L : Lent rom low high entries len) (F : Fresh len bitcycles) → Word bitcycles
+begin : (rom low high entries : List ℕ) (len bitcycles : ℕ) (L : Lent rom low high entries len) (F : Fresh len bitcycles)
     → Inv rom (L .rom-bytes) (L .rom-most) len (F .some) (F .whole) (stateOf (desk (emptyBench len bitcycles) low high entries)) (desk (emptyBench len bitcycles) low high entries) []
-begin rom low high entries len bitcycles L F w = record {
+begin rom low high entries len bitcycles L F = record {
   sound =
       record {
         good =
             record {
-              fits = power-on-fits bitcycles w;
+              fits = power-on-fits bitcycles (omega (arith, F .most));
               ranges = power-on-ok bitcycles (F .least) (F .most);
               low-bytes = L .low-bytes;
               low-length = L .low-length;
@@ -36,8 +35,8 @@ begin rom low high entries len bitcycles L F w = record {
 }
 
 pub demand3 : Demand3
-demand3 rom low high entries len bitcycles L w accepted cs t =
+demand3 rom low high entries len bitcycles L accepted cs t =
     let F = fresh-facts len bitcycles accepted in
     rw (F .power-on)
     (promised rom (L .rom-bytes) (L .rom-most) len (F .some) (F .whole) (desk (emptyBench len bitcycles) low high entries) refl refl refl
-    (begin rom low high entries len bitcycles L F w) cs t)
+    (begin rom low high entries len bitcycles L F) cs t)

@@ -10,7 +10,6 @@ use Rattle.bench.specs.Calls.{Desk, desk, freshCall}
 use Rattle.bench.specs.Ring.{capacity}
 use Rattle.common.specs.All.{AllOf}
 use Rattle.common.specs.Pick.{pick}
-use Rattle.registers.specs.Fit.{Word}
 use Rattle.rewind.specs.History.{survivors, keptOps}
 use Rattle.rewind.specs.Rules.{Op, obeyedAll}
 use Rattle.rewind.specs.Run.{Call, operation, back, TypedCall, called, run, deeds, stateOf}
@@ -63,5 +62,5 @@ module _ (rom : List ℕ) (d₀ : Desk) (cs : List Call) where
 
 -- demand 3
 abbrev pub Demand3 : Type 0
-Demand3 = (rom low high entries : List ℕ) (length₀ bitcycles : ℕ) → Lent rom low high entries length₀ → Word bitcycles
+Demand3 = (rom low high entries : List ℕ) (length₀ bitcycles : ℕ) → Lent rom low high entries length₀
     → freshCall length₀ bitcycles .number ≡ 0 → (cs : List Call) → AllOf TypedCall cs → Rewound rom (freshDesk length₀ bitcycles low high entries) cs

@@ -11,50 +11,50 @@ use Rattle.reader.specs.Letter.{signOf, digitOf}
 use Rattle.reader.specs.Word.{word, blankWord, letterOf, dollarOf, worthOf}
 use Rattle.reader.specs.Draft.{draft, mayOf, keywordOf, switchOf}
 use Rattle.reader.specs.Line.{fitsOf, numberOf, namedOf, takenOf, closingOf, lineOf}
-use Rattle.reader.specs.Reader.{reader, shutOf, spacedOf, plainOf, stepOf, readOf, reads}
+use Rattle.reader.specs.Reader.{reader, shutOf, spacedOf, plainOf, stepOf, readOf}
+use Rattle.bothways.proofs.Quietly.{quietly}
 use Rattle.lister.specs.Digits.{glyphOf, decimalOf}
 use Rattle.lister.specs.Row.{wordText, onWord, offWord, padText, plugText, backText}
 use Rattle.bothways.proofs.Digits.{byte-2, byte-3}
 use Rattle.bothways.proofs.Decimal.{decimal-back}
-use Rattle.bothways.proofs.Rows.{Open, fill, rom, rows, before, at, anew}
+use Rattle.bothways.proofs.Rows.{Open, fill, rom, rows, before, at}
 
 module _ (k x₁ x₂ x₃ x₄ : ℕ) (t : List ℕ) where
   -- `back `
-  back-word : (p : ℕ) → Open p → reads (before p k x₁ x₂ x₃ x₄ 0) (98 ∷ 97 ∷ 99 ∷ 107 ∷ 32 ∷ t) ≡ reads (at 15 7 0 0 0 0) t
-  unfolding reads readOf stepOf plainOf letterOf signOf digitOf spacedOf shutOf takenOf namedOf keywordOf mayOf worthOf
+  back-word : (p : ℕ) → Open p → quietly (before p k x₁ x₂ x₃ x₄ 0) (98 ∷ 97 ∷ 99 ∷ 107 ∷ 32 ∷ t) ≡ quietly (at 15 7 0 0 0 0) t
+  unfolding quietly readOf stepOf plainOf letterOf signOf digitOf spacedOf shutOf takenOf namedOf keywordOf mayOf worthOf
   back-word p fill = refl
   back-word p rom = refl
   back-word p rows = refl
 
   -- `pad `
-  pad-word : (p : ℕ) → Open p → reads (before p k x₁ x₂ x₃ x₄ 0) (112 ∷ 97 ∷ 100 ∷ 32 ∷ t) ≡ reads (at 6 4 0 0 0 0) t
-  unfolding reads readOf stepOf plainOf letterOf signOf digitOf spacedOf shutOf takenOf namedOf keywordOf mayOf worthOf
+  pad-word : (p : ℕ) → Open p → quietly (before p k x₁ x₂ x₃ x₄ 0) (112 ∷ 97 ∷ 100 ∷ 32 ∷ t) ≡ quietly (at 6 4 0 0 0 0) t
+  unfolding quietly readOf stepOf plainOf letterOf signOf digitOf spacedOf shutOf takenOf namedOf keywordOf mayOf worthOf
   pad-word p fill = refl
   pad-word p rom = refl
   pad-word p rows = refl
 
   -- `plug `
-  plug-word : (p : ℕ) → Open p → reads (before p k x₁ x₂ x₃ x₄ 0) (112 ∷ 108 ∷ 117 ∷ 103 ∷ 32 ∷ t) ≡ reads (at 17 5 0 0 0 0) t
-  unfolding reads readOf stepOf plainOf letterOf signOf digitOf spacedOf shutOf takenOf namedOf keywordOf mayOf worthOf
+  plug-word : (p : ℕ) → Open p → quietly (before p k x₁ x₂ x₃ x₄ 0) (112 ∷ 108 ∷ 117 ∷ 103 ∷ 32 ∷ t) ≡ quietly (at 17 5 0 0 0 0) t
+  unfolding quietly readOf stepOf plainOf letterOf signOf digitOf spacedOf shutOf takenOf namedOf keywordOf mayOf worthOf
   plug-word p fill = refl
   plug-word p rom = refl
   plug-word p rows = refl
 
 -- the end of a back row
-back-end : (n : ℕ) → 1 ≤ n → n < 65536 → reads (reader (word 6 n 0) (draft 4 15 7 0 0 0 0 0)) (10 ∷ []) ≡ before 4 7 (n % 256) (n / 256) 0 0 3
-unfolding reads readOf stepOf signOf shutOf takenOf numberOf fitsOf worthOf lineOf closingOf
+back-end : (n : ℕ) → 1 ≤ n → n < 65536 → quietly (reader (word 6 n 0) (draft 4 15 7 0 0 0 0 0)) (10 ∷ []) ≡ before 4 7 (n % 256) (n / 256) 0 0 3
+unfolding quietly readOf stepOf signOf shutOf takenOf numberOf fitsOf worthOf lineOf closingOf
 back-end n f l =
     let m : n ≤ 65535 = omega arith in
     let q : n / 256 % 256 ≡ n / 256 = omega arith in
     rw (le-leb 1 n f, le-leb n 65535 m, q)
 
 -- a back row comes back
-pub back-back : (n : ℕ) → 1 ≤ n → n < 65536 → (k x₁ x₂ x₃ x₄ e : ℕ) → eqb e 9 ≡ false → (p : ℕ) → Open p
-    → reads (before p k x₁ x₂ x₃ x₄ e) (backText n) ≡ before 4 7 (n % 256) (n / 256) 0 0 3
+pub back-back : (n : ℕ) → 1 ≤ n → n < 65536 → (k x₁ x₂ x₃ x₄ : ℕ) → (p : ℕ) → Open p
+    → quietly (before p k x₁ x₂ x₃ x₄ 0) (backText n) ≡ before 4 7 (n % 256) (n / 256) 0 0 3
 unfolding backText
-back-back n f l k x₁ x₂ x₃ x₄ e ok p o =
-    anew p k x₁ x₂ x₃ x₄ e ok 98 (97 ∷ 99 ∷ 107 ∷ 32 ∷ decimalOf n ++ (10 ∷ []))
-    ∙ back-word k x₁ x₂ x₃ x₄ (decimalOf n ++ (10 ∷ [])) p o
+back-back n f l k x₁ x₂ x₃ x₄ p o =
+    back-word k x₁ x₂ x₃ x₄ (decimalOf n ++ (10 ∷ [])) p o
     ∙ decimal-back 4 15 7 0 0 0 0 n (10 ∷ []) l
     ∙ back-end n f l
 
@@ -77,17 +77,17 @@ module _ (n : ℕ) (l : n < 256) where
       let q : n % 256 ≡ n = omega arith in
       rw (le-leb 0 n z, le-leb n 255 m, q)
 
-  pad-sign : (t : List ℕ) → reads (at 7 4 n 0 0 0) (36 ∷ t) ≡ reads (reader (word 2 0 0) (draft 4 7 4 n 0 0 0 0)) t
-  unfolding reads readOf stepOf plainOf signOf dollarOf
+  pad-sign : (t : List ℕ) → quietly (at 7 4 n 0 0 0) (36 ∷ t) ≡ quietly (reader (word 2 0 0) (draft 4 7 4 n 0 0 0 0)) t
+  unfolding quietly readOf stepOf plainOf signOf dollarOf
   pad-sign t = refl
 
-  pad-dollar : (t : List ℕ) → reads (reader (word 6 n 0) (draft 4 6 4 0 0 0 0 0)) (32 ∷ 36 ∷ t) ≡ reads (reader (word 2 0 0) (draft 4 7 4 n 0 0 0 0)) t
-  unfolding reads
-  pad-dollar t = ap (λ (x : Reader). reads x (36 ∷ t)) pad-space ∙ pad-sign t
+  pad-dollar : (t : List ℕ) → quietly (reader (word 6 n 0) (draft 4 6 4 0 0 0 0 0)) (32 ∷ 36 ∷ t) ≡ quietly (reader (word 2 0 0) (draft 4 7 4 n 0 0 0 0)) t
+  unfolding quietly
+  pad-dollar t = ap (λ (x : Reader). quietly x (36 ∷ t)) pad-space ∙ pad-sign t
 
   -- the word of a pad row
-  pad-end : (a h : ℕ) → a < 256 → h < 256 → reads (reader (word 3 (h * 256 + a) 0) (draft 4 7 4 n 0 0 0 0)) (10 ∷ []) ≡ before 4 4 n a h 0 3
-  unfolding reads readOf stepOf signOf shutOf takenOf numberOf fitsOf worthOf lineOf closingOf
+  pad-end : (a h : ℕ) → a < 256 → h < 256 → quietly (reader (word 3 (h * 256 + a) 0) (draft 4 7 4 n 0 0 0 0)) (10 ∷ []) ≡ before 4 4 n a h 0 3
+  unfolding quietly readOf stepOf signOf shutOf takenOf numberOf fitsOf worthOf lineOf closingOf
   pad-end a h la lh =
       let z : 0 ≤ h * 256 + a = omega arith in
       let m : h * 256 + a ≤ 65535 = omega arith in
@@ -97,12 +97,11 @@ module _ (n : ℕ) (l : n < 256) where
       rw (le-leb 0 (h * 256 + a) z, le-leb (h * 256 + a) 65535 m, u, q, v)
 
   -- a pad row comes back
-  pub pad-back : (a h k x₁ x₂ x₃ x₄ e : ℕ) → a < 256 → h < 256 → eqb e 9 ≡ false → (p : ℕ) → Open p
-      → reads (before p k x₁ x₂ x₃ x₄ e) (padText n a h) ≡ before 4 4 n a h 0 3
+  pub pad-back : (a h k x₁ x₂ x₃ x₄ : ℕ) → a < 256 → h < 256 → (p : ℕ) → Open p
+      → quietly (before p k x₁ x₂ x₃ x₄ 0) (padText n a h) ≡ before 4 4 n a h 0 3
   unfolding padText
-  pad-back a h k x₁ x₂ x₃ x₄ e la lh ok p o =
-      anew p k x₁ x₂ x₃ x₄ e ok 112 (97 ∷ 100 ∷ 32 ∷ decimalOf n ++ wordText a h)
-      ∙ pad-word k x₁ x₂ x₃ x₄ (decimalOf n ++ wordText a h) p o
+  pad-back a h k x₁ x₂ x₃ x₄ la lh p o =
+      pad-word k x₁ x₂ x₃ x₄ (decimalOf n ++ wordText a h) p o
       ∙ decimal-back 4 6 4 0 0 0 0 n (wordText a h) (omega arith)
       ∙ pad-dollar (glyphOf (h / 16) ∷ glyphOf h ∷ glyphOf (a / 16) ∷ glyphOf a ∷ 10 ∷ [])
       ∙ byte-2 4 7 4 n 0 0 0 (glyphOf (a / 16) ∷ glyphOf a ∷ 10 ∷ []) 0 h lh
@@ -119,26 +118,24 @@ module _ (n : ℕ) (l : n < 256) where
       rw (le-leb 0 n z, le-leb n 255 m, q)
 
   -- on, off
-  switch : (b : Bool) → reads (at 9 5 n 0 0 0) (onOff b) ≡ before 4 5 n (bit b) 0 0 3
-  unfolding reads readOf stepOf plainOf letterOf signOf digitOf shutOf takenOf namedOf switchOf worthOf lineOf closingOf
+  switch : (b : Bool) → quietly (at 9 5 n 0 0 0) (onOff b) ≡ before 4 5 n (bit b) 0 0 3
+  unfolding quietly readOf stepOf plainOf letterOf signOf digitOf shutOf takenOf namedOf switchOf worthOf lineOf closingOf
   switch true = refl
   switch false = refl
 
-  plug-rest : (b : Bool) → reads (reader (word 6 n 0) (draft 4 17 5 0 0 0 0 0)) (32 ∷ onOff b) ≡ before 4 5 n (bit b) 0 0 3
-  unfolding reads
-  plug-rest b = ap (λ (x : Reader). reads x (onOff b)) plug-space ∙ switch b
+  plug-rest : (b : Bool) → quietly (reader (word 6 n 0) (draft 4 17 5 0 0 0 0 0)) (32 ∷ onOff b) ≡ before 4 5 n (bit b) 0 0 3
+  unfolding quietly
+  plug-rest b = ap (λ (x : Reader). quietly x (onOff b)) plug-space ∙ switch b
 
   -- a plug row comes back
-  pub plug-back : (b : Bool) (k x₁ x₂ x₃ x₄ e : ℕ) → eqb e 9 ≡ false → (p : ℕ) → Open p
-      → reads (before p k x₁ x₂ x₃ x₄ e) (plugText n (bit b)) ≡ before 4 5 n (bit b) 0 0 3
+  pub plug-back : (b : Bool) (k x₁ x₂ x₃ x₄ : ℕ) → (p : ℕ) → Open p
+      → quietly (before p k x₁ x₂ x₃ x₄ 0) (plugText n (bit b)) ≡ before 4 5 n (bit b) 0 0 3
   unfolding plugText
-  plug-back true k x₁ x₂ x₃ x₄ e ok p o =
-      anew p k x₁ x₂ x₃ x₄ e ok 112 (108 ∷ 117 ∷ 103 ∷ 32 ∷ decimalOf n ++ onWord)
-      ∙ plug-word k x₁ x₂ x₃ x₄ (decimalOf n ++ onWord) p o
+  plug-back true k x₁ x₂ x₃ x₄ p o =
+      plug-word k x₁ x₂ x₃ x₄ (decimalOf n ++ onWord) p o
       ∙ decimal-back 4 17 5 0 0 0 0 n onWord (omega arith)
       ∙ plug-rest true
-  plug-back false k x₁ x₂ x₃ x₄ e ok p o =
-      anew p k x₁ x₂ x₃ x₄ e ok 112 (108 ∷ 117 ∷ 103 ∷ 32 ∷ decimalOf n ++ offWord)
-      ∙ plug-word k x₁ x₂ x₃ x₄ (decimalOf n ++ offWord) p o
+  plug-back false k x₁ x₂ x₃ x₄ p o =
+      plug-word k x₁ x₂ x₃ x₄ (decimalOf n ++ offWord) p o
       ∙ decimal-back 4 17 5 0 0 0 0 n offWord (omega arith)
       ∙ plug-rest false

@@ -13,11 +13,12 @@ use Rattle.reader.specs.Letter.{signOf, digitOf}
 use Rattle.reader.specs.Word.{word, blankWord, letterOf, worthOf}
 use Rattle.reader.specs.Draft.{draft, mayOf, keywordOf, optionOf}
 use Rattle.reader.specs.Line.{fitsOf, numberOf, namedOf, takenOf, closingOf, lineOf}
-use Rattle.reader.specs.Reader.{reader, shutOf, spacedOf, plainOf, stepOf, readOf, reads}
+use Rattle.reader.specs.Reader.{reader, shutOf, spacedOf, plainOf, stepOf, readOf}
+use Rattle.bothways.proofs.Quietly.{quietly}
 use Rattle.lister.specs.Digits.{decimalOf}
 use Rattle.lister.specs.Row.{eventWord, eventText, flagsText, cyclesText}
 use Rattle.bothways.proofs.Decimal.{decimal-back}
-use Rattle.bothways.proofs.Rows.{Open, fill, rom, rows, before, at, anew}
+use Rattle.bothways.proofs.Rows.{Open, fill, rom, rows, before, at}
 
 -- the flags of a row
 pub data Flags : ℕ → Type 0 where
@@ -28,33 +29,33 @@ pub data Flags : ℕ → Type 0 where
 
 module _ (k x₁ x₂ x₃ x₄ : ℕ) (t : List ℕ) where
   -- `cycles `
-  cycles-word : (p : ℕ) → Open p → reads (before p k x₁ x₂ x₃ x₄ 0) (99 ∷ 121 ∷ 99 ∷ 108 ∷ 101 ∷ 115 ∷ 32 ∷ t) ≡ reads (at 1 1 0 0 0 0) t
-  unfolding reads readOf stepOf plainOf letterOf signOf digitOf spacedOf shutOf takenOf namedOf keywordOf mayOf worthOf
+  cycles-word : (p : ℕ) → Open p → quietly (before p k x₁ x₂ x₃ x₄ 0) (99 ∷ 121 ∷ 99 ∷ 108 ∷ 101 ∷ 115 ∷ 32 ∷ t) ≡ quietly (at 1 1 0 0 0 0) t
+  unfolding quietly readOf stepOf plainOf letterOf signOf digitOf spacedOf shutOf takenOf namedOf keywordOf mayOf worthOf
   cycles-word p fill = refl
   cycles-word p rom = refl
   cycles-word p rows = refl
 
 module _ (l h v : ℕ) where
-  line-end : reads (at 2 1 l h v 0) (108 ∷ 105 ∷ 110 ∷ 101 ∷ 10 ∷ []) ≡ before 4 1 l h v 1 3
-  unfolding reads readOf stepOf plainOf letterOf signOf digitOf spacedOf shutOf takenOf namedOf optionOf worthOf lineOf closingOf
+  line-end : quietly (at 2 1 l h v 0) (108 ∷ 105 ∷ 110 ∷ 101 ∷ 10 ∷ []) ≡ before 4 1 l h v 1 3
+  unfolding quietly readOf stepOf plainOf letterOf signOf digitOf spacedOf shutOf takenOf namedOf optionOf worthOf lineOf closingOf
   line-end = refl
 
-  timer-end : reads (at 2 1 l h v 0) (116 ∷ 105 ∷ 109 ∷ 101 ∷ 114 ∷ 10 ∷ []) ≡ before 4 1 l h v 2 3
-  unfolding reads readOf stepOf plainOf letterOf signOf digitOf spacedOf shutOf takenOf namedOf optionOf worthOf lineOf closingOf
+  timer-end : quietly (at 2 1 l h v 0) (116 ∷ 105 ∷ 109 ∷ 101 ∷ 114 ∷ 10 ∷ []) ≡ before 4 1 l h v 2 3
+  unfolding quietly readOf stepOf plainOf letterOf signOf digitOf spacedOf shutOf takenOf namedOf optionOf worthOf lineOf closingOf
   timer-end = refl
 
-  both-end : reads (at 2 1 l h v 0) (108 ∷ 105 ∷ 110 ∷ 101 ∷ 32 ∷ 116 ∷ 105 ∷ 109 ∷ 101 ∷ 114 ∷ 10 ∷ []) ≡ before 4 1 l h v 3 3
-  unfolding reads readOf stepOf plainOf letterOf signOf digitOf spacedOf shutOf takenOf namedOf optionOf worthOf lineOf closingOf
+  both-end : quietly (at 2 1 l h v 0) (108 ∷ 105 ∷ 110 ∷ 101 ∷ 32 ∷ 116 ∷ 105 ∷ 109 ∷ 101 ∷ 114 ∷ 10 ∷ []) ≡ before 4 1 l h v 3 3
+  unfolding quietly readOf stepOf plainOf letterOf signOf digitOf spacedOf shutOf takenOf namedOf optionOf worthOf lineOf closingOf
   both-end = refl
 
   -- the flags behind a number
-  tail : (w : Reader) → readOf w 32 ≡ at 2 1 l h v 0 → readOf w 10 ≡ before 4 1 l h v 0 3 → (f : ℕ) → Flags f
-      → reads w (flagsText f ++ (10 ∷ [])) ≡ before 4 1 l h v f 3
-  unfolding reads flagsText
-  tail w s e f none = e
-  tail w s e f line = ap (λ (x : Reader). reads x (108 ∷ 105 ∷ 110 ∷ 101 ∷ 10 ∷ [])) s ∙ line-end
-  tail w s e f timer = ap (λ (x : Reader). reads x (116 ∷ 105 ∷ 109 ∷ 101 ∷ 114 ∷ 10 ∷ [])) s ∙ timer-end
-  tail w s e f both = ap (λ (x : Reader). reads x (108 ∷ 105 ∷ 110 ∷ 101 ∷ 32 ∷ 116 ∷ 105 ∷ 109 ∷ 101 ∷ 114 ∷ 10 ∷ [])) s ∙ both-end
+  tail : (w : Reader) → eqb (w .draft .emit) 0 ≡ true → readOf w 32 ≡ at 2 1 l h v 0 → readOf w 10 ≡ before 4 1 l h v 0 3 → (f : ℕ) → Flags f
+      → quietly w (flagsText f ++ (10 ∷ [])) ≡ before 4 1 l h v f 3
+  unfolding quietly flagsText
+  tail w z s e f none = rw z e
+  tail w z s e f line = rw z (ap (λ (x : Reader). quietly x (108 ∷ 105 ∷ 110 ∷ 101 ∷ 10 ∷ [])) s ∙ line-end)
+  tail w z s e f timer = rw z (ap (λ (x : Reader). quietly x (116 ∷ 105 ∷ 109 ∷ 101 ∷ 114 ∷ 10 ∷ [])) s ∙ timer-end)
+  tail w z s e f both = rw z (ap (λ (x : Reader). quietly x (108 ∷ 105 ∷ 110 ∷ 101 ∷ 32 ∷ 116 ∷ 105 ∷ 109 ∷ 101 ∷ 114 ∷ 10 ∷ [])) s ∙ both-end)
 
 -- the count and what may follow it
 module _ (n : ℕ) (f1 : 1 ≤ n) (ln : n < 65536) where
@@ -96,35 +97,35 @@ module _ (l h v : ℕ) (lv : v < 256) where
       let q : v % 256 ≡ v = omega arith in
       rw (le-leb 0 v z, le-leb v 255 m, q)
 
-  event-word : (t : List ℕ) → reads (at 2 1 l h 0 0) (101 ∷ 118 ∷ 101 ∷ 110 ∷ 116 ∷ 32 ∷ t) ≡ reads (at 3 1 l h 0 0) t
-  unfolding reads readOf stepOf plainOf letterOf signOf digitOf spacedOf shutOf takenOf namedOf optionOf worthOf
+  event-word : (t : List ℕ) → quietly (at 2 1 l h 0 0) (101 ∷ 118 ∷ 101 ∷ 110 ∷ 116 ∷ 32 ∷ t) ≡ quietly (at 3 1 l h 0 0) t
+  unfolding quietly readOf stepOf plainOf letterOf signOf digitOf spacedOf shutOf takenOf namedOf optionOf worthOf
   event-word t = refl
 
   -- an event behind the count
-  event : (w : Reader) → readOf w 32 ≡ at 2 1 l h 0 0 → (t : List ℕ) → reads w ((eventWord ++ decimalOf v) ++ t) ≡ reads timed t
-  unfolding reads
-  event w s t =
-      ap (λ (x : Reader). reads x (101 ∷ 118 ∷ 101 ∷ 110 ∷ 116 ∷ 32 ∷ decimalOf v ++ t)) s
+  event : (w : Reader) → eqb (w .draft .emit) 0 ≡ true → readOf w 32 ≡ at 2 1 l h 0 0 → (t : List ℕ) → quietly w ((eventWord ++ decimalOf v) ++ t) ≡ quietly timed t
+  unfolding quietly
+  event w z s t =
+      rw z
+      (ap (λ (x : Reader). quietly x (101 ∷ 118 ∷ 101 ∷ 110 ∷ 116 ∷ 32 ∷ decimalOf v ++ t)) s
       ∙ event-word (decimalOf v ++ t)
-      ∙ decimal-back 4 3 1 l h 0 0 v t (omega arith)
+      ∙ decimal-back 4 3 1 l h 0 0 v t (omega arith))
 
 module _ (n v f : ℕ) (f1 : 1 ≤ n) (ln : n < 65536) (lv : v < 256) (flags : Flags f) where
   rest : (b : Bool) → eqb v 0 ≡ b
-      → reads (counted n f1 ln) (pick b [] (eventWord ++ decimalOf v) ++ (flagsText f ++ (10 ∷ []))) ≡ before 4 1 (n % 256) (n / 256) v f 3
+      → quietly (counted n f1 ln) (pick b [] (eventWord ++ decimalOf v) ++ (flagsText f ++ (10 ∷ []))) ≡ before 4 1 (n % 256) (n / 256) v f 3
   rest true e =
       let z : 0 ≡ v = sym (eqb-true v 0 e) in
-      tail (n % 256) (n / 256) 0 (counted n f1 ln) (count-space n f1 ln) (count-end n f1 ln) f flags
+      tail (n % 256) (n / 256) 0 (counted n f1 ln) refl (count-space n f1 ln) (count-end n f1 ln) f flags
       ∙ ap (λ (x : ℕ). before 4 1 (n % 256) (n / 256) x f 3) z
   rest false e =
-      event (n % 256) (n / 256) v lv (counted n f1 ln) (count-space n f1 ln) (flagsText f ++ (10 ∷ []))
-      ∙ tail (n % 256) (n / 256) v (timed (n % 256) (n / 256) v lv) (event-space (n % 256) (n / 256) v lv) (event-end (n % 256) (n / 256) v lv) f flags
+      event (n % 256) (n / 256) v lv (counted n f1 ln) refl (count-space n f1 ln) (flagsText f ++ (10 ∷ []))
+      ∙ tail (n % 256) (n / 256) v (timed (n % 256) (n / 256) v lv) refl (event-space (n % 256) (n / 256) v lv) (event-end (n % 256) (n / 256) v lv) f flags
 
   -- a cycles row comes back
-  pub cycles-back : (k x₁ x₂ x₃ x₄ e : ℕ) → eqb e 9 ≡ false → (p : ℕ) → Open p
-      → reads (before p k x₁ x₂ x₃ x₄ e) (cyclesText n v f) ≡ before 4 1 (n % 256) (n / 256) v f 3
+  pub cycles-back : (k x₁ x₂ x₃ x₄ : ℕ) → (p : ℕ) → Open p
+      → quietly (before p k x₁ x₂ x₃ x₄ 0) (cyclesText n v f) ≡ before 4 1 (n % 256) (n / 256) v f 3
   unfolding cyclesText eventText
-  cycles-back k x₁ x₂ x₃ x₄ e ok p o =
-      anew p k x₁ x₂ x₃ x₄ e ok 99 (121 ∷ 99 ∷ 108 ∷ 101 ∷ 115 ∷ 32 ∷ decimalOf n ++ (eventText v ++ (flagsText f ++ (10 ∷ []))))
-      ∙ cycles-word k x₁ x₂ x₃ x₄ (decimalOf n ++ (eventText v ++ (flagsText f ++ (10 ∷ [])))) p o
+  cycles-back k x₁ x₂ x₃ x₄ p o =
+      cycles-word k x₁ x₂ x₃ x₄ (decimalOf n ++ (eventText v ++ (flagsText f ++ (10 ∷ [])))) p o
       ∙ decimal-back 4 1 1 0 0 0 0 n (eventText v ++ (flagsText f ++ (10 ∷ []))) ln
       ∙ rest (eqb v 0) refl

@@ -11,7 +11,8 @@ use Rattle.reader.specs.declared.reader.Reader.{Reader}
 use Rattle.reader.specs.declared.draft.Draft.{Draft}
 use Rattle.reader.specs.Word.{word, blankWord, letterOf}
 use Rattle.reader.specs.Draft.{draft}
-use Rattle.reader.specs.Reader.{reader, plainOf, stepOf, readOf, reads}
+use Rattle.reader.specs.Reader.{reader, plainOf, stepOf, readOf}
+use Rattle.bothways.proofs.Quietly.{quietly}
 use Rattle.lister.specs.Digits.{glyphOf, placeOf, decimalOf}
 use Rattle.bothways.proofs.Digits.{glyph-digit, glyph-sign}
 
@@ -20,27 +21,27 @@ module _ (p s k x₁ x₂ x₃ x₄ : ℕ) where
   quiet = draft p s k x₁ x₂ x₃ x₄ 0
 
   -- the first digit
-  one : (t : List ℕ) (y : ℕ) → y < 10 → reads (reader (blankWord 0) quiet) (glyphOf y ∷ t) ≡ reads (reader (word 6 y 0) quiet) t
-  unfolding reads readOf stepOf plainOf letterOf
+  one : (t : List ℕ) (y : ℕ) → y < 10 → quietly (reader (blankWord 0) quiet) (glyphOf y ∷ t) ≡ quietly (reader (word 6 y 0) quiet) t
+  unfolding quietly readOf stepOf plainOf letterOf
   one t y h =
       let e : y % 16 ≡ y = omega arith in
       let z : 0 * 10 + y ≡ y = omega arith in
       rw (glyph-sign y, glyph-digit y, e, lt-ltb y 10 h, lt-ltb y 10 h, z)
 
   -- one digit more
-  more : (t : List ℕ) (v y : ℕ) → v < 65536 → y < 10 → reads (reader (word 6 v 0) quiet) (glyphOf y ∷ t) ≡ reads (reader (word 6 (v * 10 + y) 0) quiet) t
-  unfolding reads readOf stepOf plainOf letterOf
+  more : (t : List ℕ) (v y : ℕ) → v < 65536 → y < 10 → quietly (reader (word 6 v 0) quiet) (glyphOf y ∷ t) ≡ quietly (reader (word 6 (v * 10 + y) 0) quiet) t
+  unfolding quietly readOf stepOf plainOf letterOf
   more t v y l h =
       let e : y % 16 ≡ y = omega arith in
       let m : v < 72057594037927936 = omega arith in
       rw (glyph-sign y, glyph-digit y, e, lt-ltb y 10 h, lt-ltb v 72057594037927936 m)
 
-  same : (t : List ℕ) {v w : ℕ} → v ≡ w → reads (reader (word 6 v 0) quiet) t ≡ reads (reader (word 6 w 0) quiet) t
-  same t e = ap (λ (x : ℕ). reads (reader (word 6 x 0) quiet) t) e
+  same : (t : List ℕ) {v w : ℕ} → v ≡ w → quietly (reader (word 6 v 0) quiet) t ≡ quietly (reader (word 6 w 0) quiet) t
+  same t e = ap (λ (x : ℕ). quietly (reader (word 6 x 0) quiet) t) e
 
   module _ (n : ℕ) (t : List ℕ) (small : n < 65536) where
     abbrev Back : List ℕ → Type 0
-    Back l = reads (reader (blankWord 0) quiet) (l ++ t) ≡ reads (reader (word 6 n 0) quiet) t
+    Back l = quietly (reader (blankWord 0) quiet) (l ++ t) ≡ quietly (reader (word 6 n 0) quiet) t
 
     one-digit : n < 10 → Back (placeOf n 1 ∷ [])
     one-digit h =
@@ -106,6 +107,6 @@ module _ (p s k x₁ x₂ x₃ x₄ : ℕ) where
     choose false false false true e f g h = four-digits (ltb-true n 10000 h)
     choose false false false false e f g h = five-digits
 
-    pub decimal-back : reads (reader (blankWord 0) quiet) (decimalOf n ++ t) ≡ reads (reader (word 6 n 0) quiet) t
+    pub decimal-back : quietly (reader (blankWord 0) quiet) (decimalOf n ++ t) ≡ quietly (reader (word 6 n 0) quiet) t
     unfolding decimalOf
     decimal-back = choose (ltb n 10) (ltb n 100) (ltb n 1000) (ltb n 10000) refl refl refl refl

@@ -14,7 +14,8 @@ use Rattle.reader.specs.declared.draft.Draft.{Draft}
 use Rattle.reader.specs.Letter.{signOf, digitOf}
 use Rattle.reader.specs.Word.{word, letterOf}
 use Rattle.reader.specs.Draft.{draft}
-use Rattle.reader.specs.Reader.{reader, plainOf, stepOf, readOf, reads}
+use Rattle.reader.specs.Reader.{reader, plainOf, stepOf, readOf}
+use Rattle.bothways.proofs.Quietly.{quietly}
 use Rattle.lister.specs.Digits.{glyphOf}
 
 -- the sign of a digit r below 16
@@ -65,50 +66,50 @@ module _ (p s k x₁ x₂ x₃ x₄ : ℕ) where
 
   -- a digit of a number behind `$`, in form 3 (and 5 behind a colon)
   pub hex-3 : (t : List ℕ) (v b x : ℕ) → v < 72057594037927936
-      → reads (reader (word 3 v b) quiet) (glyphOf x ∷ t) ≡ reads (reader (word 3 (v * 16 + x % 16) b) quiet) t
-  unfolding reads readOf stepOf plainOf letterOf
+      → quietly (reader (word 3 v b) quiet) (glyphOf x ∷ t) ≡ quietly (reader (word 3 (v * 16 + x % 16) b) quiet) t
+  unfolding quietly readOf stepOf plainOf letterOf
   hex-3 t v b x h = rw (glyph-sign x, glyph-digit x, lt-ltb (x % 16) 16 (small x), lt-ltb v 72057594037927936 h)
 
-  pub hex-2 : (t : List ℕ) (b x : ℕ) → reads (reader (word 2 0 b) quiet) (glyphOf x ∷ t) ≡ reads (reader (word 3 (x % 16) b) quiet) t
-  unfolding reads readOf stepOf plainOf letterOf
+  pub hex-2 : (t : List ℕ) (b x : ℕ) → quietly (reader (word 2 0 b) quiet) (glyphOf x ∷ t) ≡ quietly (reader (word 3 (x % 16) b) quiet) t
+  unfolding quietly readOf stepOf plainOf letterOf
   hex-2 t b x =
       let z : 0 * 16 + x % 16 ≡ x % 16 = omega arith in
       rw (glyph-sign x, glyph-digit x, lt-ltb (x % 16) 16 (small x), z)
 
   pub hex-5 : (t : List ℕ) (v b x : ℕ) → v < 72057594037927936
-      → reads (reader (word 5 v b) quiet) (glyphOf x ∷ t) ≡ reads (reader (word 5 (v * 16 + x % 16) b) quiet) t
-  unfolding reads readOf stepOf plainOf letterOf
+      → quietly (reader (word 5 v b) quiet) (glyphOf x ∷ t) ≡ quietly (reader (word 5 (v * 16 + x % 16) b) quiet) t
+  unfolding quietly readOf stepOf plainOf letterOf
   hex-5 t v b x h = rw (glyph-sign x, glyph-digit x, lt-ltb (x % 16) 16 (small x), lt-ltb v 72057594037927936 h)
 
-  pub hex-4 : (t : List ℕ) (b x : ℕ) → reads (reader (word 4 0 b) quiet) (glyphOf x ∷ t) ≡ reads (reader (word 5 (x % 16) b) quiet) t
-  unfolding reads readOf stepOf plainOf letterOf
+  pub hex-4 : (t : List ℕ) (b x : ℕ) → quietly (reader (word 4 0 b) quiet) (glyphOf x ∷ t) ≡ quietly (reader (word 5 (x % 16) b) quiet) t
+  unfolding quietly readOf stepOf plainOf letterOf
   hex-4 t b x =
       let z : 0 * 16 + x % 16 ≡ x % 16 = omega arith in
       rw (glyph-sign x, glyph-digit x, lt-ltb (x % 16) 16 (small x), z)
 
   -- the two digits of a byte
-  pub byte-2 : (t : List ℕ) (b x : ℕ) → x < 256 → reads (reader (word 2 0 b) quiet) (glyphOf (x / 16) ∷ glyphOf x ∷ t) ≡ reads (reader (word 3 x b) quiet) t
+  pub byte-2 : (t : List ℕ) (b x : ℕ) → x < 256 → quietly (reader (word 2 0 b) quiet) (glyphOf (x / 16) ∷ glyphOf x ∷ t) ≡ quietly (reader (word 3 x b) quiet) t
   byte-2 t b x h =
       let e : x / 16 % 16 * 16 + x % 16 ≡ x = omega arith in
       let l : x / 16 % 16 < 72057594037927936 = omega arith in
       hex-2 (glyphOf x ∷ t) b (x / 16) ∙ hex-3 t (x / 16 % 16) b x l ∙ rw e
 
   pub byte-3 : (t : List ℕ) (v b x : ℕ) → v < 65536 → x < 256
-      → reads (reader (word 3 v b) quiet) (glyphOf (x / 16) ∷ glyphOf x ∷ t) ≡ reads (reader (word 3 (v * 256 + x) b) quiet) t
+      → quietly (reader (word 3 v b) quiet) (glyphOf (x / 16) ∷ glyphOf x ∷ t) ≡ quietly (reader (word 3 (v * 256 + x) b) quiet) t
   byte-3 t v b x k h =
       let e : (v * 16 + x / 16 % 16) * 16 + x % 16 ≡ v * 256 + x = omega arith in
       let l : v < 72057594037927936 = omega arith in
       let m : v * 16 + x / 16 % 16 < 72057594037927936 = omega arith in
       hex-3 (glyphOf x ∷ t) v b (x / 16) l ∙ hex-3 t (v * 16 + x / 16 % 16) b x m ∙ rw e
 
-  pub byte-4 : (t : List ℕ) (b x : ℕ) → x < 256 → reads (reader (word 4 0 b) quiet) (glyphOf (x / 16) ∷ glyphOf x ∷ t) ≡ reads (reader (word 5 x b) quiet) t
+  pub byte-4 : (t : List ℕ) (b x : ℕ) → x < 256 → quietly (reader (word 4 0 b) quiet) (glyphOf (x / 16) ∷ glyphOf x ∷ t) ≡ quietly (reader (word 5 x b) quiet) t
   byte-4 t b x h =
       let e : x / 16 % 16 * 16 + x % 16 ≡ x = omega arith in
       let l : x / 16 % 16 < 72057594037927936 = omega arith in
       hex-4 (glyphOf x ∷ t) b (x / 16) ∙ hex-5 t (x / 16 % 16) b x l ∙ rw e
 
   pub byte-5 : (t : List ℕ) (v b x : ℕ) → v < 65536 → x < 256
-      → reads (reader (word 5 v b) quiet) (glyphOf (x / 16) ∷ glyphOf x ∷ t) ≡ reads (reader (word 5 (v * 256 + x) b) quiet) t
+      → quietly (reader (word 5 v b) quiet) (glyphOf (x / 16) ∷ glyphOf x ∷ t) ≡ quietly (reader (word 5 (v * 256 + x) b) quiet) t
   byte-5 t v b x k h =
       let e : (v * 16 + x / 16 % 16) * 16 + x % 16 ≡ v * 256 + x = omega arith in
       let l : v < 72057594037927936 = omega arith in

@@ -1,6 +1,10 @@
+pub mod Quietly
 pub mod Digits
 pub mod Rows
 pub mod Decimal
 pub mod Counts
 pub mod Cycles
 pub mod Row
+pub mod Between
+pub mod Settings
+pub mod Body

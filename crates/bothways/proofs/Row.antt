@@ -21,7 +21,7 @@ use Rattle.benchfile.proofs.Tests.{both}
 use Rattle.benchfile.proofs.Found.{Holds, found}
 use Rattle.benchfile.proofs.Parts.{each, listed}
 use Rattle.benchfile.proofs.Numbers.{lo-back, hi-back}
-use Rattle.reader.specs.Reader.{reads}
+use Rattle.bothways.proofs.Quietly.{quietly}
 use Rattle.lister.specs.Row.{rowText}
 use Rattle.bothways.proofs.Rows.{Open, before, read-back, write-back, answer-back}
 use Rattle.bothways.proofs.Counts.{bit, back-back, pad-back, plug-back}
@@ -39,7 +39,7 @@ bit-of zero h = (false, refl)
 bit-of (suc zero) h = (true, refl)
 bit-of (suc (suc n)) h = absurd (omega arith)
 
-module _ (k x₁ x₂ x₃ x₄ e : ℕ) (ok : eqb e 9 ≡ false) (p : ℕ) (o : Open p) where
+module _ (k x₁ x₂ x₃ x₄ : ℕ) (p : ℕ) (o : Open p) where
   module _ (b₀ b₁ b₂ b₃ b₄ b₅ b₆ b₇ : ℕ) (l₁ : b₁ < 256) (l₂ : b₂ < 256) (l₃ : b₃ < 256) (l₄ : b₄ < 256) where
     abbrev given : List ℕ
     given = b₀ ∷ b₁ ∷ b₂ ∷ b₃ ∷ b₄ ∷ b₅ ∷ b₆ ∷ b₇ ∷ []
@@ -51,25 +51,25 @@ module _ (k x₁ x₂ x₃ x₄ e : ℕ) (ok : eqb e 9 ≡ false) (p : ℕ) (o :
     second : (x y : ℕ) (l : List ℕ) → allZero (x ∷ y ∷ l) ≡ true → y ≡ 0
     second x y l h = head y l (both (eqb x 0) (allZero (y ∷ l)) h .1)
 
-    of-kind : Holds (formTable given) b₀ → reads (before p k x₁ x₂ x₃ x₄ e) (rowText given) ≡ before 4 b₀ b₁ b₂ b₃ b₄ 3
+    of-kind : Holds (formTable given) b₀ → quietly (before p k x₁ x₂ x₃ x₄ 0) (rowText given) ≡ before 4 b₀ b₁ b₂ b₃ b₄ 3
     unfolding rowText
     of-kind (inl (q, h)) =
         let r = both (leb 1 (twoAt given 1) && leb b₄ 3) (zeros given 5) h in
         let s = both (leb 1 (twoAt given 1)) (leb b₄ 3) (r .0) in
         let z : b₀ ≡ 1 = q in
-        let c = cycles.cycles-back (twoAt given 1) b₃ b₄ (leb-true 1 (twoAt given 1) (s .0)) (omega arith) l₃ (flags-of b₄ (leb-true b₄ 3 (s .1))) k x₁ x₂ x₃ x₄ e ok p o in
+        let c = cycles.cycles-back (twoAt given 1) b₃ b₄ (leb-true 1 (twoAt given 1) (s .0)) (omega arith) l₃ (flags-of b₄ (leb-true b₄ 3 (s .1))) k x₁ x₂ x₃ x₄ p o in
         rw z (c ∙ rw (lo-back b₁ b₂ l₁, hi-back b₁ b₂ l₁))
     of-kind (inr (inl (q, h))) =
         let z : b₀ ≡ 2 = q in
         let y : b₄ ≡ 0 = head b₄ (b₅ ∷ b₆ ∷ b₇ ∷ []) h in
-        rw (z, y) (read-back b₁ b₂ b₃ l₁ l₂ l₃ k x₁ x₂ x₃ x₄ e ok p o)
+        rw (z, y) (read-back b₁ b₂ b₃ l₁ l₂ l₃ k x₁ x₂ x₃ x₄ p o)
     of-kind (inr (inr (inl (q, h)))) =
         let z : b₀ ≡ 3 = q in
-        rw z (write-back b₁ b₂ b₃ l₁ l₂ l₃ b₄ k x₁ x₂ x₃ x₄ e l₄ ok p o)
+        rw z (write-back b₁ b₂ b₃ l₁ l₂ l₃ b₄ k x₁ x₂ x₃ x₄ l₄ p o)
     of-kind (inr (inr (inr (inl (q, h))))) =
         let z : b₀ ≡ 4 = q in
         let y : b₄ ≡ 0 = head b₄ (b₅ ∷ b₆ ∷ b₇ ∷ []) h in
-        rw (z, y) (pad-back b₁ l₁ b₂ b₃ k x₁ x₂ x₃ x₄ e l₂ l₃ ok p o)
+        rw (z, y) (pad-back b₁ l₁ b₂ b₃ k x₁ x₂ x₃ x₄ l₂ l₃ p o)
     of-kind (inr (inr (inr (inr (inl (q, h)))))) =
         let r = both (leb b₂ 1) (zeros given 3) h in
         let z : b₀ ≡ 5 = q in
@@ -77,33 +77,33 @@ module _ (k x₁ x₂ x₃ x₄ e : ℕ) (ok : eqb e 9 ≡ false) (p : ℕ) (o :
         let w : b₄ ≡ 0 = second b₃ b₄ (b₅ ∷ b₆ ∷ b₇ ∷ []) (r .1) in
         let s = bit-of b₂ (leb-true b₂ 1 (r .0)) in
         let t : b₂ ≡ bit (s .0) = sym (s .1) in
-        rw (z, y, w, t) (plug-back b₁ l₁ (s .0) k x₁ x₂ x₃ x₄ e ok p o)
+        rw (z, y, w, t) (plug-back b₁ l₁ (s .0) k x₁ x₂ x₃ x₄ p o)
     of-kind (inr (inr (inr (inr (inr (inl (q, h))))))) =
         let r = both (eqb b₁ 0) (zeros given 5) h in
         let z : b₀ ≡ 6 = q in
         let y : b₁ ≡ 0 = eqb-true b₁ 0 (r .0) in
-        rw (z, y) (answer-back 0 b₂ b₃ (omega arith) l₂ l₃ b₄ k x₁ x₂ x₃ x₄ e l₄ ok p o)
+        rw (z, y) (answer-back 0 b₂ b₃ (omega arith) l₂ l₃ b₄ k x₁ x₂ x₃ x₄ l₄ p o)
     of-kind (inr (inr (inr (inr (inr (inr (inl (q, h)))))))) =
         let r = both (leb 1 (twoAt given 1)) (zeros given 3) h in
         let z : b₀ ≡ 7 = q in
         let y : b₃ ≡ 0 = head b₃ (b₄ ∷ b₅ ∷ b₆ ∷ b₇ ∷ []) (r .1) in
         let w : b₄ ≡ 0 = second b₃ b₄ (b₅ ∷ b₆ ∷ b₇ ∷ []) (r .1) in
-        let c = back-back (twoAt given 1) (leb-true 1 (twoAt given 1) (r .0)) (omega arith) k x₁ x₂ x₃ x₄ e ok p o in
+        let c = back-back (twoAt given 1) (leb-true 1 (twoAt given 1) (r .0)) (omega arith) k x₁ x₂ x₃ x₄ p o in
         rw (z, y, w) (c ∙ rw (lo-back b₁ b₂ l₁, hi-back b₁ b₂ l₁))
     of-kind (inr (inr (inr (inr (inr (inr (inr n))))))) = absurd n
 
-  -- reading what list writes of a well-formed row gives its kind and fields, and completes a row
-  pub row-back : (b : List ℕ) → Bytes b → formedRow b ≡ true
-      → reads (before p k x₁ x₂ x₃ x₄ e) (rowText b) ≡ before 4 (byteAt b 0) (byteAt b 1) (byteAt b 2) (byteAt b 3) (byteAt b 4) 3
+  -- reading what list writes of a well-formed row gives its kind and fields, and completes a row at its end and nothing before
+  pub row-quiet : (b : List ℕ) → Bytes b → formedRow b ≡ true
+      → quietly (before p k x₁ x₂ x₃ x₄ 0) (rowText b) ≡ before 4 (byteAt b 0) (byteAt b 1) (byteAt b 2) (byteAt b 3) (byteAt b 4) 3
   unfolding formedRow
-  row-back b small h =
+  row-quiet b small h =
       let q = both (eqb (length b) 8) (find (formTable b) (byteAt b 0) false) h in
       let n : length b ≡ 8 = eqb-true (length b) 8 (q .0) in
       let w : each 8 b 0 ≡ b = sym (listed 8 b 0 (omega arith)) ∙ take-all 8 b (omega arith) in
       let kept : Holds (formTable b) (byteAt b 0) = found (formTable b) (byteAt b 0) (q .1) in
       let spread : Holds (formTable (each 8 b 0)) (byteAt b 0) = subst (λ (l : List ℕ). Holds (formTable l) (byteAt l 0)) (sym w) kept in
       let back = of-kind (byteAt b 0) (byteAt b 1) (byteAt b 2) (byteAt b 3) (byteAt b 4) (byteAt b 5) (byteAt b 6) (byteAt b 7) (small 1) (small 2) (small 3) (small 4) spread in
-      subst (λ (l : List ℕ). reads (before p k x₁ x₂ x₃ x₄ e) (rowText l) ≡ before 4 (byteAt b 0) (byteAt b 1) (byteAt b 2) (byteAt b 3) (byteAt b 4) 3) w back
+      subst (λ (l : List ℕ). quietly (before p k x₁ x₂ x₃ x₄ 0) (rowText l) ≡ before 4 (byteAt b 0) (byteAt b 1) (byteAt b 2) (byteAt b 3) (byteAt b 4) 3) w back
 
 -- the bytes behind the fields of a row are zero
 ends : (r : Row) → byteAt (bytesOf r) 0 ∷ byteAt (bytesOf r) 1 ∷ byteAt (bytesOf r) 2 ∷ byteAt (bytesOf r) 3 ∷ byteAt (bytesOf r) 4 ∷ 0 ∷ 0 ∷ 0 ∷ []

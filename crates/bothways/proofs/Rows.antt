@@ -1,4 +1,4 @@
--- What list writes of a row, the reader reads back.
+-- What list writes of a row, the reader quietly back.
 use Prim.Native.Nat.{ℕ, _+_, _*_, _/_, _%_, _≤_, _<_}
 use mathlib.Core.Bool.{Bool, true, false}
 use mathlib.Core.List.{List, [], _∷_}
@@ -11,7 +11,8 @@ use Rattle.reader.specs.Letter.{signOf, digitOf}
 use Rattle.reader.specs.Word.{word, blankWord, letterOf, dollarOf, colonOf, worthOf}
 use Rattle.reader.specs.Draft.{draft, mayOf, keywordOf}
 use Rattle.reader.specs.Line.{fitsOf, numberOf, namedOf, takenOf, closingOf, lineOf}
-use Rattle.reader.specs.Reader.{reader, shutOf, spacedOf, plainOf, stepOf, readOf, reads}
+use Rattle.reader.specs.Reader.{reader, shutOf, spacedOf, plainOf, stepOf, readOf}
+use Rattle.bothways.proofs.Quietly.{quietly}
 use Rattle.lister.specs.Digits.{glyphOf}
 use Rattle.lister.specs.Row.{readText, writeText, answerText}
 use Rattle.bothways.proofs.Digits.{byte-2, byte-3, byte-4, byte-5}
@@ -35,43 +36,33 @@ before p k x₁ x₂ x₃ x₄ e = reader (blankWord 0) (draft p 0 k x₁ x₂ x
 abbrev pub at : ℕ → ℕ → ℕ → ℕ → ℕ → ℕ → Reader
 at s k x₁ x₂ x₃ x₄ = reader (blankWord 0) (draft 4 s k x₁ x₂ x₃ x₄ 0)
 
--- a line starts anew whatever the line before completed
-module _ (p k x₁ x₂ x₃ x₄ e : ℕ) (ok : eqb e 9 ≡ false) (c : ℕ) (t : List ℕ) where
-  quieted : readOf (before p k x₁ x₂ x₃ x₄ e) c ≡ readOf (before p k x₁ x₂ x₃ x₄ 0) c
-  unfolding readOf
-  quieted = rw ok
-
-  pub anew : reads (before p k x₁ x₂ x₃ x₄ e) (c ∷ t) ≡ reads (before p k x₁ x₂ x₃ x₄ 0) (c ∷ t)
-  unfolding reads
-  anew = ap (λ (r : Reader). reads r t) quieted
-
 module _ (k x₁ x₂ x₃ x₄ : ℕ) (t : List ℕ) where
   -- `read `
-  read-word : (p : ℕ) → Open p → reads (before p k x₁ x₂ x₃ x₄ 0) (114 ∷ 101 ∷ 97 ∷ 100 ∷ 32 ∷ t) ≡ reads (at 4 2 0 0 0 0) t
-  unfolding reads readOf stepOf plainOf letterOf signOf digitOf spacedOf shutOf takenOf namedOf keywordOf mayOf worthOf
+  read-word : (p : ℕ) → Open p → quietly (before p k x₁ x₂ x₃ x₄ 0) (114 ∷ 101 ∷ 97 ∷ 100 ∷ 32 ∷ t) ≡ quietly (at 4 2 0 0 0 0) t
+  unfolding quietly readOf stepOf plainOf letterOf signOf digitOf spacedOf shutOf takenOf namedOf keywordOf mayOf worthOf
   read-word p fill = refl
   read-word p rom = refl
   read-word p rows = refl
 
   -- `write `
-  write-word : (p : ℕ) → Open p → reads (before p k x₁ x₂ x₃ x₄ 0) (119 ∷ 114 ∷ 105 ∷ 116 ∷ 101 ∷ 32 ∷ t) ≡ reads (at 16 3 0 0 0 0) t
-  unfolding reads readOf stepOf plainOf letterOf signOf digitOf spacedOf shutOf takenOf namedOf keywordOf mayOf worthOf
+  write-word : (p : ℕ) → Open p → quietly (before p k x₁ x₂ x₃ x₄ 0) (119 ∷ 114 ∷ 105 ∷ 116 ∷ 101 ∷ 32 ∷ t) ≡ quietly (at 16 3 0 0 0 0) t
+  unfolding quietly readOf stepOf plainOf letterOf signOf digitOf spacedOf shutOf takenOf namedOf keywordOf mayOf worthOf
   write-word p fill = refl
   write-word p rom = refl
   write-word p rows = refl
 
   -- `answer `
-  answer-word : (p : ℕ) → Open p → reads (before p k x₁ x₂ x₃ x₄ 0) (97 ∷ 110 ∷ 115 ∷ 119 ∷ 101 ∷ 114 ∷ 32 ∷ t) ≡ reads (at 8 6 0 0 0 0) t
-  unfolding reads readOf stepOf plainOf letterOf signOf digitOf spacedOf shutOf takenOf namedOf keywordOf mayOf worthOf
+  answer-word : (p : ℕ) → Open p → quietly (before p k x₁ x₂ x₃ x₄ 0) (97 ∷ 110 ∷ 115 ∷ 119 ∷ 101 ∷ 114 ∷ 32 ∷ t) ≡ quietly (at 8 6 0 0 0 0) t
+  unfolding quietly readOf stepOf plainOf letterOf signOf digitOf spacedOf shutOf takenOf namedOf keywordOf mayOf worthOf
   answer-word p fill = refl
   answer-word p rom = refl
   answer-word p rows = refl
 
 -- `$` and a bank, a colon, an address
 module _ (s k b l h : ℕ) (t : List ℕ) (lb : b < 256) (ll : l < 256) (lh : h < 256) where
-  address : reads (at s k 0 0 0 0) (36 ∷ glyphOf (b / 16) ∷ glyphOf b ∷ 58 ∷ glyphOf (h / 16) ∷ glyphOf h ∷ glyphOf (l / 16) ∷ glyphOf l ∷ t)
-      ≡ reads (reader (word 5 (h * 256 + l) b) (draft 4 s k 0 0 0 0 0)) t
-  unfolding reads readOf stepOf plainOf signOf dollarOf colonOf
+  address : quietly (at s k 0 0 0 0) (36 ∷ glyphOf (b / 16) ∷ glyphOf b ∷ 58 ∷ glyphOf (h / 16) ∷ glyphOf h ∷ glyphOf (l / 16) ∷ glyphOf l ∷ t)
+      ≡ quietly (reader (word 5 (h * 256 + l) b) (draft 4 s k 0 0 0 0 0)) t
+  unfolding quietly readOf stepOf plainOf signOf dollarOf colonOf
   address =
       byte-2 4 s k 0 0 0 0 (58 ∷ glyphOf (h / 16) ∷ glyphOf h ∷ glyphOf (l / 16) ∷ glyphOf l ∷ t) 0 b lb
       ∙ byte-4 4 s k 0 0 0 0 (glyphOf (l / 16) ∷ glyphOf l ∷ t) b h lh
@@ -79,13 +70,13 @@ module _ (s k b l h : ℕ) (t : List ℕ) (lb : b < 256) (ll : l < 256) (lh : h 
 
 -- `= $` behind an address
 module _ (r : Reader) (k b l h : ℕ) (t : List ℕ) where
-  sign : reads (at 5 k b l h 0) (61 ∷ 32 ∷ 36 ∷ t) ≡ reads (reader (word 2 0 0) (draft 4 5 k b l h 0 0)) t
-  unfolding reads readOf stepOf plainOf signOf dollarOf spacedOf shutOf
+  sign : quietly (at 5 k b l h 0) (61 ∷ 32 ∷ 36 ∷ t) ≡ quietly (reader (word 2 0 0) (draft 4 5 k b l h 0 0)) t
+  unfolding quietly readOf stepOf plainOf signOf dollarOf spacedOf shutOf
   sign = refl
 
-  spaced : readOf r 32 ≡ at 5 k b l h 0 → reads r (32 ∷ 61 ∷ 32 ∷ 36 ∷ t) ≡ reads (reader (word 2 0 0) (draft 4 5 k b l h 0 0)) t
-  unfolding reads
-  spaced e = ap (λ (x : Reader). reads x (61 ∷ 32 ∷ 36 ∷ t)) e ∙ sign
+  spaced : eqb (r .draft .emit) 0 ≡ true → readOf r 32 ≡ at 5 k b l h 0 → quietly r (32 ∷ 61 ∷ 32 ∷ 36 ∷ t) ≡ quietly (reader (word 2 0 0) (draft 4 5 k b l h 0 0)) t
+  unfolding quietly
+  spaced z e = rw z (ap (λ (x : Reader). quietly x (61 ∷ 32 ∷ 36 ∷ t)) e ∙ sign)
 
 module _ (b l h : ℕ) (lb : b < 256) (ll : l < 256) (lh : h < 256) where
   abbrev whole : ℕ
@@ -101,8 +92,8 @@ module _ (b l h : ℕ) (lb : b < 256) (ll : l < 256) (lh : h < 256) where
   high = omega arith
 
   -- the end of a read row
-  read-end : reads (reader (word 5 (h * 256 + l) b) (draft 4 4 2 0 0 0 0 0)) (10 ∷ []) ≡ before 4 2 b l h 0 3
-  unfolding reads readOf stepOf signOf shutOf takenOf numberOf fitsOf worthOf lineOf closingOf
+  read-end : quietly (reader (word 5 (h * 256 + l) b) (draft 4 4 2 0 0 0 0 0)) (10 ∷ []) ≡ before 4 2 b l h 0 3
+  unfolding quietly readOf stepOf signOf shutOf takenOf numberOf fitsOf worthOf lineOf closingOf
   read-end =
       let f : b ≤ 255 = omega arith in
       let g : h * 256 + l ≤ 65535 = omega arith in
@@ -111,12 +102,11 @@ module _ (b l h : ℕ) (lb : b < 256) (ll : l < 256) (lh : h < 256) where
       rw (le-leb b 255 f, le-leb (h * 256 + l) 65535 g, le-leb 0 whole z, le-leb whole 16777215 m, low, mid, high)
 
   -- a read row comes back
-  pub read-back : (k x₁ x₂ x₃ x₄ e : ℕ) → eqb e 9 ≡ false → (p : ℕ) → Open p
-      → reads (before p k x₁ x₂ x₃ x₄ e) (readText b l h) ≡ before 4 2 b l h 0 3
-  read-back k x₁ x₂ x₃ x₄ e ok p o =
+  pub read-back : (k x₁ x₂ x₃ x₄ : ℕ) → (p : ℕ) → Open p
+      → quietly (before p k x₁ x₂ x₃ x₄ 0) (readText b l h) ≡ before 4 2 b l h 0 3
+  read-back k x₁ x₂ x₃ x₄ p o =
       let rest : List ℕ = 36 ∷ glyphOf (b / 16) ∷ glyphOf b ∷ 58 ∷ glyphOf (h / 16) ∷ glyphOf h ∷ glyphOf (l / 16) ∷ glyphOf l ∷ 10 ∷ [] in
-      anew p k x₁ x₂ x₃ x₄ e ok 114 (101 ∷ 97 ∷ 100 ∷ 32 ∷ rest)
-      ∙ read-word k x₁ x₂ x₃ x₄ rest p o
+      read-word k x₁ x₂ x₃ x₄ rest p o
       ∙ address 4 2 b l h (10 ∷ []) lb ll lh
       ∙ read-end
 
@@ -130,13 +120,13 @@ module _ (b l h : ℕ) (lb : b < 256) (ll : l < 256) (lh : h < 256) where
       let m : whole ≤ 16777215 = omega arith in
       rw (le-leb b 255 f, le-leb (h * 256 + l) 65535 g, le-leb 0 whole z, le-leb whole 16777215 m, low, mid, high)
 
-  write-middle : (t : List ℕ) → reads (reader (word 5 (h * 256 + l) b) (draft 4 16 3 0 0 0 0 0)) (32 ∷ 61 ∷ 32 ∷ 36 ∷ t)
-      ≡ reads (reader (word 2 0 0) (draft 4 5 3 b l h 0 0)) t
-  write-middle t = spaced (reader (word 5 (h * 256 + l) b) (draft 4 16 3 0 0 0 0 0)) 3 b l h t write-space
+  write-middle : (t : List ℕ) → quietly (reader (word 5 (h * 256 + l) b) (draft 4 16 3 0 0 0 0 0)) (32 ∷ 61 ∷ 32 ∷ 36 ∷ t)
+      ≡ quietly (reader (word 2 0 0) (draft 4 5 3 b l h 0 0)) t
+  write-middle t = spaced (reader (word 5 (h * 256 + l) b) (draft 4 16 3 0 0 0 0 0)) 3 b l h t refl write-space
 
   -- the byte of a write row or an answer row, and the line's end
-  byte-end : (kind first x : ℕ) → Row kind → x < 256 → reads (reader (word 3 x 0) (draft 4 5 kind first l h 0 0)) (10 ∷ []) ≡ before 4 kind first l h x 3
-  unfolding reads readOf stepOf signOf shutOf takenOf numberOf fitsOf worthOf lineOf closingOf
+  byte-end : (kind first x : ℕ) → Row kind → x < 256 → quietly (reader (word 3 x 0) (draft 4 5 kind first l h 0 0)) (10 ∷ []) ≡ before 4 kind first l h x 3
+  unfolding quietly readOf stepOf signOf shutOf takenOf numberOf fitsOf worthOf lineOf closingOf
   byte-end kind first x write lx =
       let z : 0 ≤ x = omega arith in
       let m : x ≤ 255 = omega arith in
@@ -149,13 +139,12 @@ module _ (b l h : ℕ) (lb : b < 256) (ll : l < 256) (lh : h < 256) where
       rw (le-leb 0 x z, le-leb x 255 m, w)
 
   -- a write row comes back
-  pub write-back : (x k x₁ x₂ x₃ x₄ e : ℕ) → x < 256 → eqb e 9 ≡ false → (p : ℕ) → Open p
-      → reads (before p k x₁ x₂ x₃ x₄ e) (writeText b l h x) ≡ before 4 3 b l h x 3
-  write-back x k x₁ x₂ x₃ x₄ e lx ok p o =
+  pub write-back : (x k x₁ x₂ x₃ x₄ : ℕ) → x < 256 → (p : ℕ) → Open p
+      → quietly (before p k x₁ x₂ x₃ x₄ 0) (writeText b l h x) ≡ before 4 3 b l h x 3
+  write-back x k x₁ x₂ x₃ x₄ lx p o =
       let end : List ℕ = 32 ∷ 61 ∷ 32 ∷ 36 ∷ glyphOf (x / 16) ∷ glyphOf x ∷ 10 ∷ [] in
       let rest : List ℕ = 36 ∷ glyphOf (b / 16) ∷ glyphOf b ∷ 58 ∷ glyphOf (h / 16) ∷ glyphOf h ∷ glyphOf (l / 16) ∷ glyphOf l ∷ end in
-      anew p k x₁ x₂ x₃ x₄ e ok 119 (114 ∷ 105 ∷ 116 ∷ 101 ∷ 32 ∷ rest)
-      ∙ write-word k x₁ x₂ x₃ x₄ rest p o
+      write-word k x₁ x₂ x₃ x₄ rest p o
       ∙ address 16 3 b l h end lb ll lh
       ∙ write-middle (glyphOf (x / 16) ∷ glyphOf x ∷ 10 ∷ [])
       ∙ byte-2 4 5 3 b l h 0 (10 ∷ []) 0 x lx
@@ -171,22 +160,21 @@ module _ (b l h : ℕ) (lb : b < 256) (ll : l < 256) (lh : h < 256) where
       let v : h % 256 ≡ h = omega arith in
       rw (le-leb 0 (h * 256 + l) z, le-leb (h * 256 + l) 65535 m, u, q, v)
 
-  answer-middle : (t : List ℕ) → reads (reader (word 3 (h * 256 + l) 0) (draft 4 8 6 0 0 0 0 0)) (32 ∷ 61 ∷ 32 ∷ 36 ∷ t)
-      ≡ reads (reader (word 2 0 0) (draft 4 5 6 0 l h 0 0)) t
-  answer-middle t = spaced (reader (word 3 (h * 256 + l) 0) (draft 4 8 6 0 0 0 0 0)) 6 0 l h t answer-space
+  answer-middle : (t : List ℕ) → quietly (reader (word 3 (h * 256 + l) 0) (draft 4 8 6 0 0 0 0 0)) (32 ∷ 61 ∷ 32 ∷ 36 ∷ t)
+      ≡ quietly (reader (word 2 0 0) (draft 4 5 6 0 l h 0 0)) t
+  answer-middle t = spaced (reader (word 3 (h * 256 + l) 0) (draft 4 8 6 0 0 0 0 0)) 6 0 l h t refl answer-space
 
-  answer-dollar : (t : List ℕ) → reads (at 8 6 0 0 0 0) (36 ∷ t) ≡ reads (reader (word 2 0 0) (draft 4 8 6 0 0 0 0 0)) t
-  unfolding reads readOf stepOf plainOf signOf dollarOf
+  answer-dollar : (t : List ℕ) → quietly (at 8 6 0 0 0 0) (36 ∷ t) ≡ quietly (reader (word 2 0 0) (draft 4 8 6 0 0 0 0 0)) t
+  unfolding quietly readOf stepOf plainOf signOf dollarOf
   answer-dollar t = refl
 
   -- an answer row comes back
-  pub answer-back : (x k x₁ x₂ x₃ x₄ e : ℕ) → x < 256 → eqb e 9 ≡ false → (p : ℕ) → Open p
-      → reads (before p k x₁ x₂ x₃ x₄ e) (answerText l h x) ≡ before 4 6 0 l h x 3
-  answer-back x k x₁ x₂ x₃ x₄ e lx ok p o =
+  pub answer-back : (x k x₁ x₂ x₃ x₄ : ℕ) → x < 256 → (p : ℕ) → Open p
+      → quietly (before p k x₁ x₂ x₃ x₄ 0) (answerText l h x) ≡ before 4 6 0 l h x 3
+  answer-back x k x₁ x₂ x₃ x₄ lx p o =
       let end : List ℕ = 32 ∷ 61 ∷ 32 ∷ 36 ∷ glyphOf (x / 16) ∷ glyphOf x ∷ 10 ∷ [] in
       let digits : List ℕ = glyphOf (h / 16) ∷ glyphOf h ∷ glyphOf (l / 16) ∷ glyphOf l ∷ end in
-      anew p k x₁ x₂ x₃ x₄ e ok 97 (110 ∷ 115 ∷ 119 ∷ 101 ∷ 114 ∷ 32 ∷ 36 ∷ digits)
-      ∙ answer-word k x₁ x₂ x₃ x₄ (36 ∷ digits) p o
+      answer-word k x₁ x₂ x₃ x₄ (36 ∷ digits) p o
       ∙ answer-dollar digits
       ∙ byte-2 4 8 6 0 0 0 0 (glyphOf (l / 16) ∷ glyphOf l ∷ end) 0 h lh
       ∙ byte-3 4 8 6 0 0 0 0 end h 0 l (omega arith) ll

@@ -41,11 +41,11 @@ abbrev pub late : Section → ℕ
 late fill = 2
 late rom = 3
 
-abbrev kindOf : Section → ℕ
+abbrev pub kindOf : Section → ℕ
 kindOf fill = 9
 kindOf rom = 10
 
-abbrev firstOf : Section → ℕ
+abbrev pub firstOf : Section → ℕ
 firstOf fill = 11
 firstOf rom = 12
 
@@ -53,7 +53,7 @@ abbrev moreOf : Section → ℕ
 moreOf fill = 13
 moreOf rom = 19
 
-abbrev emitOf : Section → ℕ
+abbrev pub emitOf : Section → ℕ
 emitOf fill = 1
 emitOf rom = 5
 
@@ -75,7 +75,7 @@ abbrev pub gained : Section → Reader → Sheet → Sheet → Sheet → List �
 gained b r f o s l = made r (puts f (toFront b l)) (puts o (toRom b l)) s
 
 -- a byte x is read, y was before it
-abbrev byteRead : Section → Bool → ℕ → ℕ → Reader
+abbrev pub byteRead : Section → Bool → ℕ → ℕ → Reader
 byteRead b i x y = reader (word 3 x 0) (draft (late b) (placeOf b i) (kindOf b) y 0 0 0 0)
 
 abbrev spacedRead : Section → ℕ → Reader
@@ -84,7 +84,7 @@ spacedRead b x = reader (blankWord 0) (draft (late b) (moreOf b) (kindOf b) x 0 
 abbrev dollarRead : Section → ℕ → Reader
 dollarRead b x = reader (word 2 0 0) (draft (late b) (moreOf b) (kindOf b) x 0 0 0 0)
 
-abbrev lineRead : Section → ℕ → Reader
+abbrev pub lineRead : Section → ℕ → Reader
 lineRead b x = before (late b) (kindOf b) x 0 0 0 (emitOf b)
 
 module _ (x y : ℕ) (lx : x < 256) where
@@ -125,7 +125,7 @@ module _ (file : List ℕ) (b : Section) (f o s : Sheet) where
   unfolding frontOf romOf scriptOf puts
   none x = refl
 
-  nothing : (x y : ℕ) (i : Bool) → added file f o s (byteRead b i x y) ≡ made (byteRead b i x y) f o s
+  pub nothing : (x y : ℕ) (i : Bool) → added file f o s (byteRead b i x y) ≡ made (byteRead b i x y) f o s
   unfolding frontOf romOf scriptOf puts
   nothing x y i = refl
 
@@ -177,7 +177,7 @@ module _ (file : List ℕ) (b : Section) (i : Bool) (f o s : Sheet) (x y z : ℕ
       ∙ nothing file b front image s z x false)
 
 -- the last byte of a line
-abbrev lastOf : ℕ → List ℕ → ℕ
+abbrev pub lastOf : ℕ → List ℕ → ℕ
 lastOf x [] = x
 lastOf x (z ∷ l) = lastOf z l
 
@@ -185,7 +185,7 @@ tail-bytes : (x : ℕ) (l : List ℕ) → Bytes (x ∷ l) → Bytes l
 tail-bytes x l h i = h (suc i)
 
 -- the bytes behind x, and the line's end
-bytes-run : (file : List ℕ) (b : Section) (i : Bool) (f o s : Sheet) (x y : ℕ) (l : List ℕ) → Bytes (x ∷ l)
+pub bytes-run : (file : List ℕ) (b : Section) (i : Bool) (f o s : Sheet) (x y : ℕ) (l : List ℕ) → Bytes (x ∷ l)
     → runs file (made (byteRead b i x y) f o s) (bytesText l ++ (10 ∷ [])) ≡ gained b (lineRead b (lastOf x l)) f o s (x ∷ l)
 unfolding bytesText runs
 bytes-run file b i f o s x y [] h =

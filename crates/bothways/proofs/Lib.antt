@@ -8,3 +8,4 @@ pub mod Row
 pub mod Between
 pub mod Settings
 pub mod Body
+pub mod Lines

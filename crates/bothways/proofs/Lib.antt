@@ -9,3 +9,6 @@ pub mod Between
 pub mod Settings
 pub mod Body
 pub mod Lines
+pub mod Says
+pub mod Bound
+pub mod Whole

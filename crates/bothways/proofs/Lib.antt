@@ -11,4 +11,5 @@ pub mod Body
 pub mod Lines
 pub mod Says
 pub mod Bound
+pub mod Room
 pub mod Whole

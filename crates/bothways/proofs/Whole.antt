@@ -8,8 +8,8 @@ use lib.Dec.{eqb, lit<}
 use lib.ListN.{length, replicate, length-append}
 use Rattle.common.specs.Pick.{pick}
 use Rattle.append.specs.Sheet.{Sheet, sheet, puts}
-use Rattle.append.proofs.Laws.{puts-append}
-use Rattle.benchfile.specs.Bytes.{Bytes}
+use Rattle.append.proofs.Laws.{puts-append, puts-room}
+use Rattle.benchfile.specs.Bytes.{twoAt, Bytes}
 use Rattle.benchfile.specs.File.{startOf, sizeOf, bodyOf, scriptFormed, fileCheck, sectionNumber, sectionOf}
 use Rattle.benchfile.specs.Build.{build, Bench}
 use Rattle.benchfile.proofs.Parts.{part-bytes}
@@ -19,6 +19,7 @@ use Rattle.reader.specs.Letter.{signOf}
 use Rattle.reader.specs.Line.{lineOf}
 use Rattle.reader.specs.Reader as reading
 use Rattle.reader.specs.Reader.{shutOf, stepOf, readOf}
+use Rattle.lister.specs.Body.{fillWord, romWord}
 use Rattle.lister.specs.List.{listText}
 use Rattle.assembler.specs.Bind.{bound}
 use Rattle.assembler.specs.Desk.{State, frontOf, romOf, scriptOf, stepped, runs, opened, gathered}
@@ -28,6 +29,7 @@ use Rattle.bothways.proofs.Rows.{Open, fill, rom, rows, before}
 use Rattle.bothways.proofs.Between.{Rest}
 use Rattle.bothways.proofs.Lines.{Scripted}
 use Rattle.bothways.proofs.Says.{text, says}
+use Rattle.bothways.proofs.Room.{settings-short, lines-short, script-short}
 use Rattle.bothways.proofs.Bound.{kept, length-build, bound-build, there, finished-file}
 
 -- the line feed behind the text adds nothing
@@ -114,6 +116,17 @@ module _ (f : List ℕ) (small : Bytes f) (sound : fileCheck f ≡ 0) where
   is-bound : bound (settings ++ ram) image script ≡ f
   is-bound = bound-build settings ram image script two short ∙ built
 
+  -- the text of a file has room in 327,680 bytes
+  pub text-short : length (listText f) ≤ 327680
+  unfolding listText
+  text-short =
+      let l = length-build settings ram image script in
+      let a = settings-short (twoAt settings 0) in
+      let b = lines-short fillWord (omega arith) ram in
+      let c = lines-short romWord (omega arith) image in
+      let d = script-short script in
+      simp length-append (omega (arith, l, short, two, a, b, c, d))
+
   module _ (out file : List ℕ) (room : length f ≤ length out) where
     -- in buffers that have room for a fill, a ROM and a script
     module _ (n m q : ℕ) (ln : 4098 ≤ n) (lm : 65536 ≤ m) (lq : 65536 ≤ q) where
@@ -143,3 +156,10 @@ module _ (f : List ℕ) (small : Bytes f) (sound : fileCheck f ≡ 0) where
     -- so what is shown is the file
     pub whole-shown : shownOf (assembled out (listText f) file) ≡ f
     whole-shown = ap shownOf whole ∙ there out f sound room
+
+  -- list and then assemble, in buffers as the programs lend them: what is shown in the end is the file
+  pub there-and-back : (paper out file : List ℕ) → 327680 ≤ length paper → 65536 ≤ length out
+      → shownOf (assembled out (shownOf (puts (sheet paper 0) (listText f))) file) ≡ f
+  there-and-back paper out file lp lo =
+      let written : shownOf (puts (sheet paper 0) (listText f)) ≡ listText f = puts-room (listText f) paper 0 (omega (arith, text-short)) .0 in
+      ap (λ (t : List ℕ). shownOf (assembled out t file)) written ∙ whole-shown out file (omega (arith, apart .short))

@@ -15,7 +15,7 @@ use Rattle.reader.specs.Reader.{readOf, reads}
 use Rattle.lister.specs.Row.{rowText}
 use Rattle.assembler.specs.Desk.{State, frontOf, romOf, scriptOf, stepped, runs}
 use Rattle.bothways.proofs.Quietly.{quietly, made, added, quietly-reads, quietly-runs}
-use Rattle.bothways.proofs.Rows.{Open, rows, before}
+use Rattle.bothways.proofs.Rows.{Open, before}
 use Rattle.bothways.proofs.Row.{row-quiet, row-added}
 
 -- behind a line's end: a reader that has not failed, in phase p, and the three buffers

@@ -1,27 +1,25 @@
 -- A line of bytes of a fill or a ROM: each comes back, and adds itself.
-use Prim.Native.Nat.{ℕ, suc, _+_, _*_, _/_, _%_, _≤_, _<_}
+use Prim.Native.Nat.{ℕ, suc, _+_, _/_, _%_, _≤_, _<_}
 use mathlib.Core.Bool.{Bool, true, false}
 use mathlib.Core.List.{List, [], _∷_, _++_}
-use mathlib.Core.Path.{_≡_, refl, sym, ap, subst, _∙_}
+use mathlib.Core.Path.{_≡_, refl, ap, _∙_}
 use native.Mathlib.Omega.{arith}
-use lib.Dec.{eqb}
 use borrow.Author.Tests.{le-leb}
 use Rattle.append.specs.Sheet.{Sheet, puts}
 use Rattle.benchfile.specs.Bytes.{Bytes}
 use Rattle.reader.specs.declared.reader.Reader.{Reader}
-use Rattle.reader.specs.Letter.{signOf, digitOf}
-use Rattle.reader.specs.Word.{word, blankWord, letterOf, dollarOf, worthOf}
-use Rattle.reader.specs.Draft.{draft, mayOf, keywordOf}
-use Rattle.reader.specs.Line.{fitsOf, numberOf, namedOf, takenOf, closingOf, lineOf}
+use Rattle.reader.specs.Letter.{signOf}
+use Rattle.reader.specs.Word.{word, blankWord, dollarOf, worthOf}
+use Rattle.reader.specs.Draft.{draft}
+use Rattle.reader.specs.Line.{fitsOf, numberOf, takenOf, closingOf, lineOf}
 use Rattle.reader.specs.Reader.{reader, shutOf, spacedOf, plainOf, stepOf, readOf}
 use Rattle.lister.specs.Digits.{glyphOf}
-use Rattle.lister.specs.Body.{bytesText, lineText, fillWord, romWord}
+use Rattle.lister.specs.Body.{bytesText, fillWord, romWord}
 use Rattle.assembler.specs.Desk.{State, frontOf, romOf, scriptOf, stepped, runs}
 use Rattle.assembler.proofs.Join.{runs-append}
 use Rattle.bothways.proofs.Quietly.{quietly, made, added, quietly-runs}
 use Rattle.bothways.proofs.Digits.{byte-2}
 use Rattle.bothways.proofs.Rows.{before}
-use Rattle.bothways.proofs.Between.{Rest, line-runs}
 
 pub data Section : Type 0 where
   fill : Section

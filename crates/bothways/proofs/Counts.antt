@@ -4,11 +4,10 @@ use mathlib.Core.Bool.{Bool, true, false}
 use mathlib.Core.List.{List, [], _∷_, _++_}
 use mathlib.Core.Path.{_≡_, refl, ap, _∙_}
 use native.Mathlib.Omega.{arith}
-use lib.Dec.{eqb}
 use borrow.Author.Tests.{le-leb}
 use Rattle.reader.specs.declared.reader.Reader.{Reader}
 use Rattle.reader.specs.Letter.{signOf, digitOf}
-use Rattle.reader.specs.Word.{word, blankWord, letterOf, dollarOf, worthOf}
+use Rattle.reader.specs.Word.{word, letterOf, dollarOf, worthOf}
 use Rattle.reader.specs.Draft.{draft, mayOf, keywordOf, switchOf}
 use Rattle.reader.specs.Line.{fitsOf, numberOf, namedOf, takenOf, closingOf, lineOf}
 use Rattle.reader.specs.Reader.{reader, shutOf, spacedOf, plainOf, stepOf, readOf}

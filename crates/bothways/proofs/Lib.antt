@@ -12,4 +12,6 @@ pub mod Lines
 pub mod Says
 pub mod Bound
 pub mod Room
+pub mod Finish
+pub mod Sections
 pub mod Whole

@@ -1,9 +1,8 @@
 -- The lines of a fill or a ROM add its bytes, those of a script its rows.
-use Prim.Native.Nat.{ℕ, zero, suc, _+_, _*_, _/_, _%_, _≤_, _<_}
-use mathlib.Core.Bool.{Bool, true, false}
+use Prim.Native.Nat.{ℕ, zero, suc, _+_, _*_, _/_, _%_, _<_}
+use mathlib.Core.Bool.{true, false}
 use mathlib.Core.List.{List, [], _∷_, _++_, append-assoc, append-nil}
 use mathlib.Core.Path.{_≡_, refl, sym, ap, subst, _∙_}
-use native.Mathlib.Numerals.{add-one}
 use native.Mathlib.Omega.{arith}
 use lib.ListN.{length, take, drop}
 use lib.Seq.{take-add, drop-drop, take-all}
@@ -14,7 +13,6 @@ use Rattle.benchfile.specs.Row.{formedRow, rowBytes}
 use Rattle.benchfile.specs.File.{scriptFormed}
 use Rattle.benchfile.proofs.Parts.{part-bytes}
 use Rattle.benchfile.proofs.Rows.{script}
-use Rattle.reader.specs.declared.reader.Reader.{Reader}
 use Rattle.reader.specs.Letter.{signOf, digitOf}
 use Rattle.reader.specs.Word.{word, letterOf, dollarOf, worthOf}
 use Rattle.reader.specs.Draft.{draft, mayOf, keywordOf}
@@ -26,7 +24,7 @@ use Rattle.lister.specs.Row.{rowText}
 use Rattle.lister.specs.List.{rowsText, scriptText}
 use Rattle.assembler.specs.Desk.{State, runs}
 use Rattle.assembler.proofs.Join.{runs-append}
-use Rattle.bothways.proofs.Quietly.{quietly, made, added}
+use Rattle.bothways.proofs.Quietly.{quietly, made}
 use Rattle.bothways.proofs.Digits.{byte-2}
 use Rattle.bothways.proofs.Rows.{Open, rows, before}
 use Rattle.bothways.proofs.Between.{Rest, line-runs, row-line}

@@ -1,14 +1,13 @@
 -- Text whose characters complete nothing before the last: only the last can add to a buffer.
 use Prim.Native.Nat.{ℕ}
 use mathlib.Core.Bool.{Bool, true, false}
-use mathlib.Core.List.{List, [], _∷_, _++_}
+use mathlib.Core.List.{List, [], _∷_}
 use mathlib.Core.Path.{_≡_, refl, sym, ap, _∙_}
 use native.Mathlib.Omega.{arith}
 use lib.Dec.{eqb}
 use borrow.Author.Tests.{eqb-true}
 use Rattle.common.specs.Pick.{pick}
 use Rattle.append.specs.Sheet.{Sheet, puts}
-use Rattle.reader.specs.declared.draft.Draft.{Draft}
 use Rattle.reader.specs.declared.reader.Reader.{Reader}
 use Rattle.reader.specs.Word.{blankWord}
 use Rattle.reader.specs.Draft.{draft}

@@ -1,7 +1,7 @@
 -- How long the text of a file can be: the buffers of the programs have room for it.
-use Prim.Native.Nat.{ℕ, zero, suc, _+_, _*_, _/_, _≤_, _<_}
+use Prim.Native.Nat.{ℕ, zero, suc, _+_, _*_, _/_, _≤_}
 use mathlib.Core.Bool.{Bool, true, false}
-use mathlib.Core.List.{List, [], _∷_, _++_}
+use mathlib.Core.List.{List, [], _∷_}
 use mathlib.Core.Path.{_≡_, refl}
 use native.Mathlib.Omega.{arith}
 use lib.Dec.{eqb, ltb}
@@ -10,7 +10,7 @@ use Rattle.common.specs.Pick.{pick}
 use Rattle.common.specs.Table.{Entry, among, find}
 use Rattle.benchfile.specs.Bytes.{byteAt, twoAt, partOf}
 use Rattle.benchfile.specs.Row.{rowBytes}
-use Rattle.lister.specs.Digits.{placeOf, decimalOf}
+use Rattle.lister.specs.Digits.{decimalOf}
 use Rattle.lister.specs.Body.{bytesText, lineText, linesFrom, linesText}
 use Rattle.lister.specs.Row.{eventText, flagsText, cyclesText, padText, plugText, backText, onWord, offWord, texts, rowText}
 use Rattle.lister.specs.List.{rowsText, scriptText, settingsText}

@@ -1,14 +1,13 @@
 -- Between two lines: a line starts anew whatever the line before completed, and what a line without bytes of a fill or a ROM adds.
 use Prim.Native.Nat.{ℕ}
-use mathlib.Core.Bool.{Bool, true, false}
+use mathlib.Core.Bool.{true, false}
 use mathlib.Core.List.{List, [], _∷_}
 use mathlib.Core.Path.{_≡_, refl, sym, ap, _∙_}
-use native.Mathlib.Omega.{arith}
 use lib.Dec.{eqb}
-use Rattle.common.specs.Pick.{pick}
 use Rattle.append.specs.Sheet.{Sheet, puts}
 use Rattle.benchfile.specs.Bytes.{byteAt, Bytes}
 use Rattle.benchfile.specs.Row.{formedRow}
+use Rattle.benchfile.proofs.Tests.{never}
 use Rattle.reader.specs.declared.reader.Reader.{Reader}
 use Rattle.reader.specs.Draft.{draft}
 use Rattle.reader.specs.Reader.{readOf, reads}
@@ -30,7 +29,7 @@ pub record Rest (p : ℕ) (f o s : Sheet) (k : State) : Type 0 where
   pub is : k ≡ made (before p kind b1 b2 b3 b4 emit) f o s
 
 module _ (p k x₁ x₂ x₃ x₄ e : ℕ) (ok : eqb e 9 ≡ false) where
-  quieted : (c : ℕ) → readOf (before p k x₁ x₂ x₃ x₄ e) c ≡ readOf (before p k x₁ x₂ x₃ x₄ 0) c
+  pub quieted : (c : ℕ) → readOf (before p k x₁ x₂ x₃ x₄ e) c ≡ readOf (before p k x₁ x₂ x₃ x₄ 0) c
   unfolding readOf
   quieted c = rw ok
 
@@ -54,9 +53,7 @@ module _ (p k x₁ x₂ x₃ x₄ e : ℕ) (ok : eqb e 9 ≡ false) where
       nothing : {A : Type 0} → quietly (before p k x₁ x₂ x₃ x₄ 0) [] ≡ q → A
       unfolding quietly
       nothing h =
-          let x : false ≡ true = sym some ∙ ap (λ (r : Reader). eqb (r .draft .emit) 0) (sym h) in
-          let z : _≡_ {A = ℕ} 0 1 = ap (λ (b : Bool). pick b 1 0) x in
-          absurd (omega arith)
+          never (sym some ∙ ap (λ (r : Reader). eqb (r .draft .emit) 0) (sym h))
 
       pub text-reads : (t : List ℕ) → quietly (before p k x₁ x₂ x₃ x₄ 0) t ≡ q → reads (before p k x₁ x₂ x₃ x₄ e) t ≡ q
       text-reads [] h = nothing h

@@ -76,10 +76,10 @@ gained b r f o s l = made r (puts f (toFront b l)) (puts o (toRom b l)) s
 abbrev pub byteRead : Section → Bool → ℕ → ℕ → Reader
 byteRead b i x y = reader (word 3 x 0) (draft (late b) (placeOf b i) (kindOf b) y 0 0 0 0)
 
-abbrev spacedRead : Section → ℕ → Reader
+abbrev pub spacedRead : Section → ℕ → Reader
 spacedRead b x = reader (blankWord 0) (draft (late b) (moreOf b) (kindOf b) x 0 0 0 (emitOf b))
 
-abbrev dollarRead : Section → ℕ → Reader
+abbrev pub dollarRead : Section → ℕ → Reader
 dollarRead b x = reader (word 2 0 0) (draft (late b) (moreOf b) (kindOf b) x 0 0 0 0)
 
 abbrev pub lineRead : Section → ℕ → Reader
@@ -95,7 +95,7 @@ module _ (x y : ℕ) (lx : x < 256) where
   same : x % 256 ≡ x
   same = omega arith
 
-  space : (b : Section) (i : Bool) → readOf (byteRead b i x y) 32 ≡ spacedRead b x
+  pub space : (b : Section) (i : Bool) → readOf (byteRead b i x y) 32 ≡ spacedRead b x
   unfolding readOf stepOf signOf spacedOf shutOf takenOf numberOf fitsOf worthOf
   space fill true = rw (le-leb 0 x least, le-leb x 255 most, same)
   space fill false = rw (le-leb 0 x least, le-leb x 255 most, same)
@@ -109,7 +109,7 @@ module _ (x y : ℕ) (lx : x < 256) where
   end rom true = rw (le-leb 0 x least, le-leb x 255 most, same)
   end rom false = rw (le-leb 0 x least, le-leb x 255 most, same)
 
-dollar : (b : Section) (x : ℕ) → readOf (spacedRead b x) 36 ≡ dollarRead b x
+pub dollar : (b : Section) (x : ℕ) → readOf (spacedRead b x) 36 ≡ dollarRead b x
 unfolding readOf stepOf plainOf signOf dollarOf
 dollar fill x = refl
 dollar rom x = refl
@@ -145,7 +145,7 @@ gain-gain fill r f o s x l = refl
 gain-gain rom r f o s x l = refl
 
 -- the two digits behind `$`
-digits : (b : Section) (x z : ℕ) → z < 256 → quietly (dollarRead b x) (glyphOf (z / 16) ∷ glyphOf z ∷ []) ≡ byteRead b false z x
+pub digits : (b : Section) (x z : ℕ) → z < 256 → quietly (dollarRead b x) (glyphOf (z / 16) ∷ glyphOf z ∷ []) ≡ byteRead b false z x
 unfolding quietly
 digits b x z h = byte-2 (late b) (moreOf b) (kindOf b) x 0 0 0 [] 0 z h
 

@@ -13,7 +13,7 @@ use Rattle.reader.specs.Word.{word, letterOf, worthOf}
 use Rattle.reader.specs.Draft.{draft, mayOf, keywordOf, optionOf}
 use Rattle.reader.specs.Line.{fitsOf, numberOf, namedOf, takenOf, closingOf, lineOf}
 use Rattle.reader.specs.Reader.{reader, shutOf, spacedOf, plainOf, stepOf, readOf}
-use Rattle.bothways.proofs.Quietly.{quietly}
+use Rattle.bothways.proofs.Quietly.{calm, quietly}
 use Rattle.lister.specs.Digits.{decimalOf}
 use Rattle.lister.specs.Row.{eventWord, eventText, flagsText, cyclesText}
 use Rattle.bothways.proofs.Decimal.{decimal-back}
@@ -48,7 +48,7 @@ module _ (l h v : ℕ) where
   both-end = refl
 
   -- the flags behind a number
-  tail : (w : Reader) → eqb (w .draft .emit) 0 ≡ true → readOf w 32 ≡ at 2 1 l h v 0 → readOf w 10 ≡ before 4 1 l h v 0 3 → (f : ℕ) → Flags f
+  tail : (w : Reader) → calm w ≡ true → readOf w 32 ≡ at 2 1 l h v 0 → readOf w 10 ≡ before 4 1 l h v 0 3 → (f : ℕ) → Flags f
       → quietly w (flagsText f ++ (10 ∷ [])) ≡ before 4 1 l h v f 3
   unfolding quietly flagsText
   tail w z s e f none = rw z e
@@ -101,7 +101,7 @@ module _ (l h v : ℕ) (lv : v < 256) where
   event-word t = refl
 
   -- an event behind the count
-  event : (w : Reader) → eqb (w .draft .emit) 0 ≡ true → readOf w 32 ≡ at 2 1 l h 0 0 → (t : List ℕ) → quietly w ((eventWord ++ decimalOf v) ++ t) ≡ quietly timed t
+  event : (w : Reader) → calm w ≡ true → readOf w 32 ≡ at 2 1 l h 0 0 → (t : List ℕ) → quietly w ((eventWord ++ decimalOf v) ++ t) ≡ quietly timed t
   unfolding quietly
   event w z s t =
       rw z

@@ -6,9 +6,11 @@ pub mod Counts
 pub mod Cycles
 pub mod Row
 pub mod Between
+pub mod Unnamed
 pub mod Settings
 pub mod Body
 pub mod Lines
+pub mod Nameless
 pub mod Says
 pub mod Bound
 pub mod Room

@@ -49,26 +49,26 @@ module _ (k x₁ x₂ x₃ x₄ : ℕ) (z : ℕ) (lz : z < 256) where
   word-dollar rom [] t = refl
   word-dollar rom (x ∷ a) t = refl
 
-  opening : (b : Section) (a : List ℕ) → quietly (before (phaseOf b a) k x₁ x₂ x₃ x₄ 0) (wordOf b ++ start) ≡ byteRead b true z 0
+  pub opening : (b : Section) (a : List ℕ) → quietly (before (phaseOf b a) k x₁ x₂ x₃ x₄ 0) (wordOf b ++ start) ≡ byteRead b true z 0
   unfolding quietly
   opening b a =
       word-dollar b a (glyphOf (z / 16) ∷ glyphOf z ∷ [])
       ∙ byte-2 (late b) (firstOf b) (kindOf b) 0 0 0 0 [] 0 z lz
 
 -- the first character of the word, and the others
-abbrev head : Section → ℕ
+abbrev pub head : Section → ℕ
 head fill = 102
 head rom = 114
 
-abbrev letters : Section → List ℕ
+abbrev pub letters : Section → List ℕ
 letters fill = 105 ∷ 108 ∷ 108 ∷ []
 letters rom = 111 ∷ 109 ∷ []
 
-lettered : (b : Section) (t : List ℕ) → wordOf b ++ t ≡ head b ∷ (letters b ++ t)
+pub lettered : (b : Section) (t : List ℕ) → wordOf b ++ t ≡ head b ∷ (letters b ++ t)
 lettered fill t = refl
 lettered rom t = refl
 
-parted : (b : Section) (z : ℕ) (t : List ℕ) → wordOf b ++ (32 ∷ 36 ∷ glyphOf (z / 16) ∷ glyphOf z ∷ t)
+pub parted : (b : Section) (z : ℕ) (t : List ℕ) → wordOf b ++ (32 ∷ 36 ∷ glyphOf (z / 16) ∷ glyphOf z ∷ t)
     ≡ (head b ∷ (letters b ++ (32 ∷ 36 ∷ glyphOf (z / 16) ∷ glyphOf z ∷ []))) ++ t
 parted fill z t = refl
 parted rom z t = refl
@@ -122,7 +122,7 @@ fine rom = refl
 
 module _ (file : List ℕ) (b : Section) (f o s : Sheet) where
   -- a line adds its bytes; no bytes, no line
-  line : (a p : List ℕ) (k : State) → Holds file b f o s a k → Bytes p → Holds file b f o s (a ++ p) (runs file k (lineText (wordOf b) p))
+  pub line : (a p : List ℕ) (k : State) → Holds file b f o s a k → Bytes p → Holds file b f o s (a ++ p) (runs file k (lineText (wordOf b) p))
   unfolding lineText runs
   line a [] k r small = subst (λ (x : List ℕ). Holds file b f o s x k) (sym (append-nil a)) r
   line a (z ∷ l) k r small =

@@ -1,13 +1,13 @@
 -- Text whose characters complete nothing before the last: only the last can add to a buffer.
 use Prim.Native.Nat.{ℕ}
-use mathlib.Core.Bool.{Bool, true, false}
+use mathlib.Core.Bool.{Bool, true, false, not, _&&_}
 use mathlib.Core.List.{List, [], _∷_}
 use mathlib.Core.Path.{_≡_, refl, sym, ap, _∙_}
-use native.Mathlib.Omega.{arith}
 use lib.Dec.{eqb}
 use borrow.Author.Tests.{eqb-true}
 use Rattle.common.specs.Pick.{pick}
 use Rattle.append.specs.Sheet.{Sheet, puts}
+use Rattle.benchfile.proofs.Tests.{both, never}
 use Rattle.reader.specs.declared.reader.Reader.{Reader}
 use Rattle.reader.specs.Word.{blankWord}
 use Rattle.reader.specs.Draft.{draft}
@@ -18,10 +18,14 @@ use Rattle.assembler.specs.Desk.{State, frontOf, romOf, scriptOf, stepped, runs
 abbrev pub loud : Reader
 loud = reader (blankWord 0) (draft 0 0 0 0 0 0 0 8)
 
--- reads, where nothing was completed before each character; loud elsewhere
+-- nothing was completed, and no file name is being read
+abbrev pub calm : Reader → Bool
+calm r = eqb (r .draft .emit) 0 && not (eqb (r .word .form) 8)
+
+-- reads, where each reader before a character is calm; loud elsewhere
 unfoldable pub quietly : Reader → List ℕ → Reader
 quietly r [] = r
-quietly r (c ∷ t) = pick (eqb (r .draft .emit) 0) (quietly (readOf r c) t) loud
+quietly r (c ∷ t) = pick (calm r) (quietly (readOf r c) t) loud
 
 abbrev pub made : Reader → Sheet → Sheet → Sheet → State
 made r f o s = record { reader = r; front = f; rom = o; script = s }
@@ -32,11 +36,9 @@ added file f o s r = made r (puts f (frontOf (r .draft))) (puts o (romOf file (r
 
 module _ (q : Reader) (fine : eqb (q .draft .emit) 8 ≡ false) where
   -- loud is not fine
-  not-loud : {A : Type 0} → loud ≡ q → A
+  pub not-loud : {A : Type 0} → loud ≡ q → A
   not-loud e =
-      let x : false ≡ true = sym fine ∙ ap (λ (r : Reader). eqb (r .draft .emit) 8) (sym e) in
-      let z : _≡_ {A = ℕ} 0 1 = ap (λ (b : Bool). pick b 1 0) x in
-      absurd (omega arith)
+      never (sym fine ∙ ap (λ (r : Reader). eqb (r .draft .emit) 8) (sym e))
 
   quiet-read : (b : Bool) (r : Reader) (t : List ℕ) → (quietly r t ≡ q → reads r t ≡ q) → pick b (quietly r t) loud ≡ q → reads r t ≡ q
   quiet-read true r t ih e = ih e
@@ -46,7 +48,7 @@ module _ (q : Reader) (fine : eqb (q .draft .emit) 8 ≡ false) where
   pub quietly-reads : (r : Reader) (t : List ℕ) → quietly r t ≡ q → reads r t ≡ q
   unfolding quietly reads
   quietly-reads r [] h = h
-  quietly-reads r (c ∷ t) h = quiet-read (eqb (r .draft .emit) 0) (readOf r c) t (λ e. quietly-reads (readOf r c) t e) h
+  quietly-reads r (c ∷ t) h = quiet-read (calm r) (readOf r c) t (λ e. quietly-reads (readOf r c) t e) h
 
   -- and adds what its last character completes
   module _ (file : List ℕ) (f o s : Sheet) where
@@ -58,12 +60,12 @@ module _ (q : Reader) (fine : eqb (q .draft .emit) 8 ≡ false) where
     unfolding stepped
     one r c = refl
 
-    quiet-run : (r : Reader) (c : ℕ) (t : List ℕ) (b : Bool) → eqb (r .draft .emit) 0 ≡ b
+    quiet-run : (r : Reader) (c : ℕ) (t : List ℕ) (b : Bool) → calm r ≡ b
         → (quietly (readOf r c) t ≡ q → runs file (added file f o s (readOf r c)) t ≡ added file f o s q)
         → pick b (quietly (readOf r c) t) loud ≡ q
         → runs file (stepped file (added file f o s r) c) t ≡ added file f o s q
     quiet-run r c t true z ih e =
-        ap (λ (k : State). runs file (stepped file k c) t) (silent r (eqb-true (r .draft .emit) 0 z))
+        ap (λ (k : State). runs file (stepped file k c) t) (silent r (eqb-true (r .draft .emit) 0 (both (eqb (r .draft .emit) 0) (not (eqb (r .word .form) 8)) z .0)))
         ∙ ap (λ (k : State). runs file k t) (one r c)
         ∙ ih e
     quiet-run r c t false z ih e = not-loud e
@@ -71,4 +73,4 @@ module _ (q : Reader) (fine : eqb (q .draft .emit) 8 ≡ false) where
     pub quietly-runs : (r : Reader) (t : List ℕ) → quietly r t ≡ q → runs file (added file f o s r) t ≡ added file f o s q
     unfolding quietly runs
     quietly-runs r [] h = ap (added file f o s) h
-    quietly-runs r (c ∷ t) h = quiet-run r c t (eqb (r .draft .emit) 0) refl (λ e. quietly-runs (readOf r c) t e) h
+    quietly-runs r (c ∷ t) h = quiet-run r c t (calm r) refl (λ e. quietly-runs (readOf r c) t e) h

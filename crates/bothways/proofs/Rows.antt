@@ -4,7 +4,6 @@ use mathlib.Core.Bool.{true}
 use mathlib.Core.List.{List, [], _∷_}
 use mathlib.Core.Path.{_≡_, refl, ap, _∙_}
 use native.Mathlib.Omega.{arith}
-use lib.Dec.{eqb}
 use borrow.Author.Tests.{le-leb}
 use Rattle.reader.specs.declared.reader.Reader.{Reader}
 use Rattle.reader.specs.Letter.{signOf, digitOf}
@@ -12,7 +11,7 @@ use Rattle.reader.specs.Word.{word, blankWord, letterOf, dollarOf, colonOf, wor
 use Rattle.reader.specs.Draft.{draft, mayOf, keywordOf}
 use Rattle.reader.specs.Line.{fitsOf, numberOf, namedOf, takenOf, closingOf, lineOf}
 use Rattle.reader.specs.Reader.{reader, shutOf, spacedOf, plainOf, stepOf, readOf}
-use Rattle.bothways.proofs.Quietly.{quietly}
+use Rattle.bothways.proofs.Quietly.{calm, quietly}
 use Rattle.lister.specs.Digits.{glyphOf}
 use Rattle.lister.specs.Row.{readText, writeText, answerText}
 use Rattle.bothways.proofs.Digits.{byte-2, byte-3, byte-4, byte-5}
@@ -74,7 +73,7 @@ module _ (r : Reader) (k b l h : ℕ) (t : List ℕ) where
   unfolding quietly readOf stepOf plainOf signOf dollarOf spacedOf shutOf
   sign = refl
 
-  spaced : eqb (r .draft .emit) 0 ≡ true → readOf r 32 ≡ at 5 k b l h 0 → quietly r (32 ∷ 61 ∷ 32 ∷ 36 ∷ t) ≡ quietly (reader (word 2 0 0) (draft 4 5 k b l h 0 0)) t
+  spaced : calm r ≡ true → readOf r 32 ≡ at 5 k b l h 0 → quietly r (32 ∷ 61 ∷ 32 ∷ 36 ∷ t) ≡ quietly (reader (word 2 0 0) (draft 4 5 k b l h 0 0)) t
   unfolding quietly
   spaced z e = rw z (ap (λ (x : Reader). quietly x (61 ∷ 32 ∷ 36 ∷ t)) e ∙ sign)
 

@@ -21,6 +21,8 @@ use Rattle.bothways.proofs.Rows as phases
 use Rattle.bothways.proofs.Between.{Rest}
 use Rattle.bothways.proofs.Settings.{settings-line}
 use Rattle.bothways.proofs.Body as body
+use Rattle.bothways.proofs.Unnamed.{Unnamed, unnamed-runs}
+use Rattle.bothways.proofs.Nameless.{settings-nameless, lines-nameless, script-nameless}
 use Rattle.bothways.proofs.Lines.{Holds, Scripted, lines-add, rows-add}
 
 -- from the settings to the fill, to the ROM, to the rows
@@ -88,3 +90,13 @@ module _ (file a b c d : List ℕ) (sa : Bytes a) (sb : Bytes b) (sc : Bytes c) 
     says =
         subst (λ (k : State). Scripted file (puts (puts f a) b) (puts o c) s d k) (sym joined)
         (rows-add file (puts (puts f a) b) (puts o c) s d sd formed k₃ said-3)
+
+    -- and no character of it belongs to a file name
+    pub nameless : Unnamed reading.startOf text
+    nameless =
+        unnamed-runs file (made reading.startOf f o s) (settingsText number) (linesText fillWord b ++ (linesText romWord c ++ scriptText d))
+        (settings-nameless number small)
+        (unnamed-runs file k₁ (linesText fillWord b) (linesText romWord c ++ scriptText d)
+        (lines-nameless file body.fill (puts f a) o s b sb k₁ (to-fill file (puts f a) o s k₁ said-1))
+        (unnamed-runs file k₂ (linesText romWord c) (scriptText d) (lines-nameless file body.rom (puts (puts f a) b) o s c sc k₂ said-2)
+        (script-nameless file (puts (puts f a) b) (puts o c) d sd formed s k₃ said-3)))

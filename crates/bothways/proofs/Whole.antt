@@ -1,6 +1,6 @@
 -- Assemble of list is the file.
 use Prim.Native.Nat.{ℕ, _+_, _≤_}
-use mathlib.Core.List.{List, _++_}
+use mathlib.Core.List.{List, [], _++_}
 use mathlib.Core.Path.{_≡_, sym, ap, subst, _∙_}
 use native.Mathlib.Omega.{arith}
 use lib.ListN.{length, replicate, length-append}
@@ -8,12 +8,13 @@ use Rattle.append.specs.Sheet.{Sheet, sheet, puts}
 use Rattle.append.proofs.Laws.{puts-append, puts-room}
 use Rattle.benchfile.specs.Bytes.{twoAt, Bytes}
 use Rattle.benchfile.specs.File.{fileCheck}
+use Rattle.reader.specs.Reader.{startOf, unnamedOf}
 use Rattle.lister.specs.Body.{fillWord, romWord}
 use Rattle.lister.specs.List.{listText}
 use Rattle.assembler.specs.Desk.{State, stepped, runs, opened, gathered}
 use Rattle.assembler.specs.Assemble.{shownOf, said, assembled}
 use Rattle.bothways.proofs.Lines.{Scripted}
-use Rattle.bothways.proofs.Says.{says}
+use Rattle.bothways.proofs.Says.{says, nameless}
 use Rattle.bothways.proofs.Room.{settings-short, lines-short, script-short}
 use Rattle.bothways.proofs.Bound.{length-build, there, finished-file}
 use Rattle.bothways.proofs.Finish.{left, bodies}
@@ -42,6 +43,14 @@ module _ (f : List ℕ) (small : Bytes f) (sound : fileCheck f ≡ 0) where
       let c = lines-short romWord (omega arith) image in
       let d = script-short script in
       simp length-append (omega (arith, l, of.short f small sound, of.two f small sound, a, b, c, d))
+
+  -- and has no file name in it
+  pub no-name : unnamedOf startOf (listText f) ≡ length (listText f)
+  unfolding listText
+  no-name =
+      nameless [] settings ram image script (of.bytes f small sound 0) (of.bytes f small sound 1) (of.bytes f small sound 2) (of.bytes f small sound 3)
+      (of.two f small sound) (of.least f small sound) (of.formed f small sound)
+      (sheet [] 0) (sheet [] 0) (sheet [] 0)
 
   module _ (out file : List ℕ) (room : length f ≤ length out) where
     -- in buffers that have room for a fill, a ROM and a script

@@ -52,8 +52,7 @@ module _ (p k x₁ x₂ x₃ x₄ e : ℕ) (ok : eqb e 9 ≡ false) where
     module _ (some : eqb (q .draft .emit) 0 ≡ false) where
       nothing : {A : Type 0} → quietly (before p k x₁ x₂ x₃ x₄ 0) [] ≡ q → A
       unfolding quietly
-      nothing h =
-          never (sym some ∙ ap (λ (r : Reader). eqb (r .draft .emit) 0) (sym h))
+      nothing h = never (sym some ∙ ap (λ (r : Reader). eqb (r .draft .emit) 0) (sym h))
 
       pub text-reads : (t : List ℕ) → quietly (before p k x₁ x₂ x₃ x₄ 0) t ≡ q → reads (before p k x₁ x₂ x₃ x₄ e) t ≡ q
       text-reads [] h = nothing h

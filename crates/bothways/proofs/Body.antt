@@ -119,10 +119,7 @@ module _ (file : List ℕ) (b : Section) (f o s : Sheet) where
   unfolding stepped
   one r c = refl
 
-  none : (x : ℕ) → added file f o s (dollarRead b x) ≡ made (dollarRead b x) f o s
-  unfolding frontOf romOf scriptOf puts
-  none x = refl
-
+  -- an unfinished byte adds nothing
   pub nothing : (x y : ℕ) (i : Bool) → added file f o s (byteRead b i x y) ≡ made (byteRead b i x y) f o s
   unfolding frontOf romOf scriptOf puts
   nothing x y i = refl

@@ -1,4 +1,4 @@
--- Text whose characters complete nothing before the last: only the last can add to a buffer.
+-- Text before whose characters nothing is completed and no file name is read: only the last one can add to a buffer.
 use Prim.Native.Nat.{ℕ}
 use mathlib.Core.Bool.{Bool, true, false, not, _&&_}
 use mathlib.Core.List.{List, [], _∷_}
@@ -37,8 +37,7 @@ added file f o s r = made r (puts f (frontOf (r .draft))) (puts o (romOf file (r
 module _ (q : Reader) (fine : eqb (q .draft .emit) 8 ≡ false) where
   -- loud is not fine
   pub not-loud : {A : Type 0} → loud ≡ q → A
-  not-loud e =
-      never (sym fine ∙ ap (λ (r : Reader). eqb (r .draft .emit) 8) (sym e))
+  not-loud e = never (sym fine ∙ ap (λ (r : Reader). eqb (r .draft .emit) 8) (sym e))
 
   quiet-read : (b : Bool) (r : Reader) (t : List ℕ) → (quietly r t ≡ q → reads r t ≡ q) → pick b (quietly r t) loud ≡ q → reads r t ≡ q
   quiet-read true r t ih e = ih e

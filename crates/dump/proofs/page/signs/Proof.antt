@@ -1,0 +1,59 @@
+use mathlib.Core.Path.{_≡_, refl, sym, _∙_}
+use Prim.Native.Nat.{_-_}
+use lib.ListN.{length, drop}
+use native.Mathlib.Omega.{arith}
+use Rattle.append.specs.Sheet.{sheet, puts}
+use Rattle.dump.specs.Page.{signsText}
+use Rattle.dump.proofs.Loops.{signs-next, signs-end}
+use Rattle.dump.proofs.page.signs.Statement.{statement}
+use Rattle.dump.proofs.page.signs.Tie as tie
+
+abbrev Inv-loop : tie.InvT-loop
+Inv-loop out₀ at s to₀ i₀ out to i =
+    (length out ≡ length out₀) × (puts (sheet out₀ at) (signsText s) ≡ puts (sheet out to) (signsText (drop i s)))
+
+abbrev μ-loop : tie.MeasureT-loop
+μ-loop out₀ at s to₀ i₀ out to i = length s - i
+
+loop-holds : tie.Need-loop-holds Inv-loop μ-loop
+loop-holds c = (refl, refl)
+
+shared-slice-read-shown : tie.Need-shared-slice-read-shown Inv-loop μ-loop
+shared-slice-read-shown c = omega arith
+
+shown-requires : tie.Need-shown-requires Inv-loop μ-loop
+shown-requires c κs = tt
+
+push-byte-requires : tie.Need-push-byte-requires Inv-loop μ-loop
+push-byte-requires c κs = tt
+
+add-i : tie.Need-add-i Inv-loop μ-loop
+add-i c = omega arith
+
+loop-less : tie.Need-loop-less Inv-loop μ-loop
+loop-less c = omega arith
+
+loop-again : tie.Need-loop-again Inv-loop μ-loop
+loop-again c = ((c .before .before .push-byte .kept .0) ∙ (c .before .before .before .before .before .before .before .loop .inv .0), (c .before .before .before .before .before .before .before .loop .inv .1) ∙ signs-next _ _ _ (c .before .before .before .before .before .before .loop-test .taken) (c .before .before .before .before .shown .ensures) (c .before .before .push-byte .ensures))
+
+same-length : tie.Need-same-length Inv-loop μ-loop
+same-length c = (c .before .loop .inv .0)
+
+returns : tie.Need-returns Inv-loop μ-loop
+returns c = sym ((c .before .loop .inv .1) ∙ signs-end _ _ _ (c .loop-test .left))
+
+pub signs-spec : {M : Type 1} → statement M
+signs-spec =
+    tie.close
+    (tie.spec
+    Inv-loop
+    μ-loop
+    loop-holds
+    shared-slice-read-shown
+    shown-requires
+    push-byte-requires
+    add-i
+    loop-less
+    loop-again
+    same-length
+    returns)

@@ -1,7 +1,7 @@
 -- The parts of a line, put one after the other, make the line.
 use Prim.Native.Nat.{ℕ}
 use mathlib.Core.List.{List, [], _∷_, _++_}
-use mathlib.Core.Path.{_≡_, ap, _∙_}
+use mathlib.Core.Path.{_≡_, _∙_}
 use Rattle.append.specs.Sheet.{Sheet, puts}
 use Rattle.lister.proofs.Join.{then}
 use Rattle.benchfile.specs.Bytes.{partOf}

@@ -1,7 +1,7 @@
 -- A place in work RAM as a person writes it, read as an offset ($7E:0000 first). 131,072 is no place.
 use Prim.Native.Nat.{ℕ, _+_, _-_, _*_}
-use mathlib.Core.List.{List, [], _∷_}
-use lib.Dec.{eqb, leb, ltb}
+use mathlib.Core.List.{List}
+use lib.Dec.{eqb, ltb}
 use lib.ListN.{length}
 use Rattle.common.specs.Pick.{pick}
 use Rattle.benchfile.specs.Bytes.{byteAt, partOf}

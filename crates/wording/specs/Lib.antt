@@ -1,0 +1,2 @@
+-- The refusals in words.
+pub mod Words

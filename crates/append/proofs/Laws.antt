@@ -1,10 +1,10 @@
 -- Bytes put one after the other, and what then stands in the buffer.
-use Prim.Native.Nat.{ℕ, zero, suc, _+_, _≤_, _<_}
+use Prim.Native.Nat.{ℕ, suc, _+_, _-_, _≤_, _<_}
 use mathlib.Core.List.{List, [], _∷_, _++_, append-assoc, append-nil}
-use mathlib.Core.Path.{_≡_, refl, sym, subst, _∙_}
+use mathlib.Core.Path.{_≡_, refl, sym, ap, subst, _∙_}
 use native.Mathlib.Numerals.{add-one}
 use native.Mathlib.Omega.{arith}
-use lib.ListN.{length, take, drop, set, getD, length-set, drop-of-length-le}
+use lib.ListN.{length, take, drop, set, getD, replicate, length-set, drop-of-length-le}
 use lib.Seq.{drop-cons, take-suc-set}
 use borrow.Author.Tests.{lt-ltb, le-ltb}
 use Rattle.append.specs.Sheet.{Sheet, sheet, push, puts}
@@ -25,6 +25,18 @@ pub puts-one : (s : Sheet) (c : ℕ) → puts s (c ∷ []) ≡ push s c
 unfolding puts
 puts-one s c = refl
 
+-- two texts put, one after the other
+pub then : (s : Sheet) {t u : Sheet} (a b : List ℕ) → t ≡ puts s a → u ≡ puts t b → u ≡ puts s (a ++ b)
+then s a b p q = q ∙ ap (λ (x : Sheet). puts x b) p ∙ sym (puts-append s a b)
+
+-- a byte put last
+pub last : (s : Sheet) {t : Sheet} (c : ℕ) → t ≡ push s c → t ≡ puts s (c ∷ [])
+last s c p = p ∙ sym (puts-one s c)
+
+-- what is left of a text once its first part is put
+pub first : (s : Sheet) {t : Sheet} (a b : List ℕ) → t ≡ puts s a → puts s (a ++ b) ≡ puts t b
+first s a b e = puts-append s a b ∙ ap (λ (x : Sheet). puts x b) (sym e)
+
 -- a byte of a list, and the rest
 pub puts-next : (s : Sheet) {t : Sheet} (l : List ℕ) (i : ℕ) → i < length l → t ≡ push s (getD l i 0) → puts s (drop i l) ≡ puts t (drop (i + 1) l)
 unfolding puts
@@ -33,6 +45,15 @@ puts-next s {t} l i h e = rw (add-one, drop-cons l i 0 h, e)
 pub puts-end : (s : Sheet) (l : List ℕ) (i : ℕ) → length l ≤ i → puts s (drop i l) ≡ s
 unfolding puts
 puts-end s l i h = rw (drop-of-length-le l h)
+
+-- the same byte from i up to n
+pub again-next : (s : Sheet) {t : Sheet} (c n i : ℕ) → i < n → t ≡ push s c → puts s (replicate (n - i) c) ≡ puts t (replicate (n - (i + 1)) c)
+unfolding puts
+again-next s {t} c n i h e = let m : n - i ≡ suc (n - (i + 1)) = omega arith in rw (m, e)
+
+pub again-end : (s : Sheet) (c n i : ℕ) → n ≤ i → puts s (replicate (n - i) c) ≡ s
+unfolding puts
+again-end s c n i h = let m : n - i ≡ 0 = omega arith in rw m
 
 -- with room, a byte is stored
 pub push-room : (l : List ℕ) (n c : ℕ) → n < length l → push (sheet l n) c ≡ sheet (set l n c) (n + 1)

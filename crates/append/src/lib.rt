@@ -1,4 +1,6 @@
 // Bytes put one after the other into a lent buffer. Where it has no more room, bytes are dropped and the place stays at its end.
+pub mod number;
+
 ghost use mathlib.Core.Path.{_≡_};
 ghost use mathlib.Core.List.{[], _∷_};
 ghost use denote.Ref.{now};

@@ -51,11 +51,10 @@ fileWords = 110 ∷ 111 ∷ 32 ∷ 98 ∷ 101 ∷ 110 ∷ 99 ∷ 104 ∷ 32 ∷ 
 abbrev pub pageWords : List ℕ
 pageWords = 112 ∷ 97 ∷ 103 ∷ 101 ∷ 32 ∷ 111 ∷ 118 ∷ 101 ∷ 114 ∷ 32 ∷ 53 ∷ 49 ∷ 49 ∷ []
 
--- the words of a number; 12 is the last of the table
-unfoldable pub wordsOf : ℕ → List ℕ
-wordsOf n =
-    find
-    (at 1 banksWords
+-- the table in its order
+abbrev pub refusals : List (Entry (List ℕ))
+refusals =
+    at 1 banksWords
     ∷ at 2 recordWords
     ∷ at 3 romWords
     ∷ at 4 machineWords
@@ -66,5 +65,8 @@ wordsOf n =
     ∷ at 9 newestWords
     ∷ at 10 bitsWords
     ∷ at 11 fileWords
-    ∷ [])
-    n pageWords
+    ∷ []
+
+-- the words of a number; 12 is the last of the table
+unfoldable pub wordsOf : ℕ → List ℕ
+wordsOf n = find refusals n pageWords

@@ -1,0 +1,41 @@
+-- The lines that are about a whole row (docs/MOVES.md): cycles held, steps taken back, a refusal (document 01's table) in words.
+use Prim.Native.Nat.{ℕ, _/_, _%_}
+use mathlib.Core.List.{List, [], _∷_, _++_}
+use lib.Dec.{eqb}
+use Rattle.common.specs.Pick.{pick}
+use Rattle.append.specs.Number.{decimal}
+use Rattle.wording.specs.Words.{wordsOf}
+use Rattle.listing.specs.Line.{headText}
+
+-- `CPU     held 8 of 40 cycles`, where every byte is looked at
+unfoldable pub heldText : ℕ → ℕ → ℕ → ℕ → ℕ → List ℕ
+heldText row clock only held count =
+    pick (eqb only 131072)
+    (headText row clock
+    ++ ((67 ∷ 80 ∷ 85 ∷ 32 ∷ 32 ∷ 32 ∷ 32 ∷ 32 ∷ 104 ∷ 101 ∷ 108 ∷ 100 ∷ 32 ∷ [])
+    ++ (decimal held ++ ((32 ∷ 111 ∷ 102 ∷ 32 ∷ []) ++ (decimal count ++ (32 ∷ 99 ∷ 121 ∷ 99 ∷ 108 ∷ 101 ∷ 115 ∷ 10 ∷ []))))))
+    []
+
+-- `before row 8`, `after cycle 3 of row 8`: a row and how many of its cycles are done, as one number
+unfoldable pub originText : ℕ → List ℕ
+originText v =
+    pick (eqb (v % 65536) 0) ((98 ∷ 101 ∷ 102 ∷ 111 ∷ 114 ∷ 101 ∷ 32 ∷ 114 ∷ 111 ∷ 119 ∷ 32 ∷ []) ++ decimal (v / 65536))
+    ((97 ∷ 102 ∷ 116 ∷ 101 ∷ 114 ∷ 32 ∷ 99 ∷ 121 ∷ 99 ∷ 108 ∷ 101 ∷ 32 ∷ []) ++ (decimal (v % 65536) ++ ((32 ∷ 111 ∷ 102 ∷ 32 ∷ 114 ∷ 111 ∷ 119 ∷ 32 ∷ []) ++ decimal (v / 65536))))
+
+-- `back    41 of 41 steps, to before row 8`; nothing where no step was accepted
+unfoldable pub backText : ℕ → ℕ → ℕ → ℕ → ℕ → List ℕ
+backText row clock steps count origin =
+    pick (eqb steps 0) []
+    (headText row clock
+    ++ ((98 ∷ 97 ∷ 99 ∷ 107 ∷ 32 ∷ 32 ∷ 32 ∷ 32 ∷ [])
+    ++ (decimal steps
+    ++ ((32 ∷ 111 ∷ 102 ∷ 32 ∷ [])
+    ++ (decimal count ++ ((32 ∷ 115 ∷ 116 ∷ 101 ∷ 112 ∷ 115 ∷ 44 ∷ 32 ∷ 116 ∷ 111 ∷ 32 ∷ []) ++ (originText origin ++ (10 ∷ []))))))))
+
+-- `refusal 8: back with no operation kept`; nothing for an accepted row
+unfoldable pub refusedText : ℕ → ℕ → ℕ → List ℕ
+refusedText row clock number =
+    pick (eqb number 0) []
+    (headText row clock
+    ++ ((114 ∷ 101 ∷ 102 ∷ 117 ∷ 115 ∷ 97 ∷ 108 ∷ 32 ∷ [])
+    ++ (decimal number ++ ((58 ∷ 32 ∷ []) ++ (wordsOf number ++ (10 ∷ []))))))

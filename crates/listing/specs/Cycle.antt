@@ -1,10 +1,11 @@
 -- The lines of a cycle (docs/MOVES.md): its accesses in order, then the NMI edge, with the clock before the cycle.
-use Prim.Native.Nat.{ℕ, min}
+use Prim.Native.Nat.{ℕ, zero, suc, _+_, min}
 use mathlib.Core.Bool.{Bool, false}
 use mathlib.Core.List.{List, [], _∷_, _++_}
 use lib.Dec.{eqb}
-use lib.ListN.{take}
+use lib.ListN.{getD}
 use Rattle.common.specs.Pick.{pick}
+use Rattle.bus.specs.Access.{noAccess}
 use Rattle.bus.specs.declared.access.Access.{Access}
 use Rattle.bus.specs.declared.access.Log.{Log}
 use Rattle.registers.specs.declared.wm_address.WmAddress.{WmAddress}
@@ -14,19 +15,25 @@ use Rattle.touch.specs.Who.{whoOf, startsAtZero}
 use Rattle.listing.specs.Line.{headText, accessText}
 use Rattle.listing.specs.declared.line.Line.{Line}
 
--- accesses one after the other, each with WMADD as the last left it; a mark stands on the first
-unfoldable pub accessesText : Line → WmAddress → Bool → List Access → List ℕ
-accessesText l w zero [] = []
-accessesText l w zero (a ∷ t) =
-    let r = reachOf (l .who) w a in accessText l a r zero ++ accessesText l (r .after) false t
+-- n accesses from access i on, each with WMADD as the last left it; a mark stands on the first
+unfoldable pub accessesFrom : Line → WmAddress → Bool → List Access → ℕ → ℕ → List ℕ
+accessesFrom l w mark items zero i = []
+accessesFrom l w mark items (suc n) i =
+    let a = getD items i noAccess in
+    let r = reachOf (l .who) w a in
+    accessText l a r mark ++ accessesFrom l (r .after) false items n (i + 1)
 
 -- those of a log, at most eleven
-abbrev pub logText : Line → WmAddress → Bool → Log → List ℕ
-logText l w zero log = accessesText l w zero (take (min (log .count) 11) (log .items))
+unfoldable pub logText : Line → WmAddress → Bool → Log → List ℕ
+logText l w mark log = accessesFrom l w mark (log .items) (min (log .count) 11) 0
 
--- `NMI     edge`, where every byte is looked at
-abbrev pub edgeText : ℕ → ℕ → ℕ → Bool → List ℕ
-edgeText row clock only edge = pick edge (pick (eqb only 131072) (headText row clock ++ (78 ∷ 77 ∷ 73 ∷ 32 ∷ 32 ∷ 32 ∷ 32 ∷ 32 ∷ 101 ∷ 100 ∷ 103 ∷ 101 ∷ 10 ∷ [])) []) []
+-- `NMI     edge`
+abbrev pub edgeWords : List ℕ
+edgeWords = 78 ∷ 77 ∷ 73 ∷ 32 ∷ 32 ∷ 32 ∷ 32 ∷ 32 ∷ 101 ∷ 100 ∷ 103 ∷ 101 ∷ 10 ∷ []
+
+-- the edge, where every byte is looked at
+unfoldable pub edgeText : ℕ → ℕ → ℕ → Bool → List ℕ
+edgeText row clock only edge = pick edge (pick (eqb only 131072) (headText row clock ++ edgeWords) []) []
 
 -- what a cycle of a machine did, by its log and its NMI edge
 unfoldable pub cycleText : ℕ → ℕ → Machine → Log → Bool → List ℕ

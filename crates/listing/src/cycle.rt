@@ -27,6 +27,7 @@ fn put_log(out: &mut [u8], at: usize, l: Line, w: WmAddress, zero: bool, log: Lo
     ensures { λ r. ⌜ sheet (now (out .exit)) r ≡ puts (sheet (now (out .entry)) at) (logText l w zero log) ⌝ }
 {
     let items = log.items;
+    let who = l.who;
     let n = made(log.count);
     let mut to = at;
     let mut wm = w;
@@ -34,7 +35,7 @@ fn put_log(out: &mut [u8], at: usize, l: Line, w: WmAddress, zero: bool, log: Lo
     let mut i: usize = 0;
     while i < n {
         let a = items[i];
-        let r = reached(l.who, wm, a);
+        let r = reached(who, wm, a);
         let after = r.after;
         to = put_access(out, to, l, a, r, first);
         wm = after;

@@ -132,7 +132,8 @@ pub fn put_access(out: &mut [u8], at: usize, l: Line, a: Access, r: Reach, zero:
     if !((l.only == 131072) | (l.only == r.spot)) {
         return at;
     }
-    let who = who_text(l.who);
+    let maker = l.who;
+    let who = who_text(maker);
     let verb = verb_text(a.write);
     let address = address_text(a);
     let b = head(out, at, l.row, l.clock);

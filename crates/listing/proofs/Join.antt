@@ -1,0 +1,139 @@
+-- The parts of each line, put one after the other, make the line.
+use Prim.Native.Nat.{ℕ, _/_, _%_}
+use mathlib.Core.Bool.{Bool, true, false}
+use mathlib.Core.List.{List, [], _∷_, _++_}
+use mathlib.Core.Path.{_≡_, sym, ap, _∙_}
+use lib.Dec.{eqb, ltb}
+use Rattle.append.specs.Number.{decimal, padded}
+use Rattle.append.specs.Sheet.{Sheet, puts}
+use Rattle.append.proofs.Laws.{then, puts-none}
+use Rattle.bus.specs.declared.access.Access.{Access}
+use Rattle.bus.specs.declared.access.Log.{Log}
+use Rattle.state.specs.declared.Machine.{Machine}
+use Rattle.touch.specs.Who.{whoOf, startsAtZero}
+use Rattle.touch.specs.declared.reach.Reach.{Reach}
+use Rattle.touch.specs.declared.who.Who.{Who}
+use Rattle.wording.specs.Words.{wordsOf}
+use Rattle.listing.specs.Line.{headText, whoText, verbText, addressText, placeText, spotText, ownText, zeroText, shows, accessText}
+use Rattle.listing.specs.Cycle.{edgeWords, logText, edgeText, cycleText}
+use Rattle.listing.specs.Event.{heldWord, ofWord, cyclesWord, beforeWords, afterWords, ofRowWords, backWord, stepsWords, refusalWord, heldText, originText, backText, refusedText}
+use Rattle.listing.specs.declared.line.Line.{Line}
+
+-- texts one after the other
+four : (s : Sheet) {t u v w : Sheet} (a b c d : List ℕ) → t ≡ puts s a → u ≡ puts t b → v ≡ puts u c → w ≡ puts v d
+    → w ≡ puts s (a ++ (b ++ (c ++ d)))
+four s a b c d p q r z = then s a (b ++ (c ++ d)) p (then _ b (c ++ d) q (then _ c d r z))
+
+six : (s : Sheet) {t u v w x y : Sheet} (a b c d e f : List ℕ)
+    → t ≡ puts s a → u ≡ puts t b → v ≡ puts u c → w ≡ puts v d → x ≡ puts w e → y ≡ puts x f
+    → y ≡ puts s (a ++ (b ++ (c ++ (d ++ (e ++ f)))))
+six s a b c d e f p q r z m n = then s a (b ++ (c ++ (d ++ (e ++ f)))) p (then _ b (c ++ (d ++ (e ++ f))) q (four _ c d e f r z m n))
+
+eight : (s : Sheet) {t u v w x y z i : Sheet} (a b c d e f g h : List ℕ)
+    → t ≡ puts s a → u ≡ puts t b → v ≡ puts u c → w ≡ puts v d → x ≡ puts w e → y ≡ puts x f → z ≡ puts y g → i ≡ puts z h
+    → i ≡ puts s (a ++ (b ++ (c ++ (d ++ (e ++ (f ++ (g ++ h)))))))
+eight s a b c d e f g h p q r l m n j k =
+    then s a (b ++ (c ++ (d ++ (e ++ (f ++ (g ++ h)))))) p
+    (then _ b (c ++ (d ++ (e ++ (f ++ (g ++ h))))) q (six _ c d e f g h r l m n j k))
+
+pub head-joined : (s : Sheet) {t u v w : Sheet} (row clock : ℕ) → t ≡ puts s (padded 5 row) → u ≡ puts t (32 ∷ []) → v ≡ puts u (padded 10 clock)
+    → w ≡ puts v (32 ∷ 32 ∷ []) → w ≡ puts s (headText row clock)
+unfolding headText
+head-joined s row clock = four s (padded 5 row) (32 ∷ []) (padded 10 clock) (32 ∷ 32 ∷ [])
+
+-- the line of an access
+module _ (s : Sheet) (l : Line) (a : Access) (r : Reach) (zero : Bool) where
+  pub access-none : shows (l .only) (r .spot) ≡ false → s ≡ puts s (accessText l a r zero)
+  unfolding accessText
+  access-none h = rw h (sym (puts-none s))
+
+  pub access-joined : {t u v w x y z i : Sheet} {who verb address : List ℕ} → shows (l .only) (r .spot) ≡ true
+      → who ≡ whoText (l .who) → verb ≡ verbText (a .write) → address ≡ addressText a
+      → t ≡ puts s (headText (l .row) (l .clock)) → u ≡ puts t who → v ≡ puts u verb → w ≡ puts v address
+      → x ≡ puts w (spotText (r .spot)) → y ≡ puts x (ownText (r .own)) → z ≡ puts y (zeroText zero) → i ≡ puts z (10 ∷ [])
+      → i ≡ puts s (accessText l a r zero)
+  unfolding accessText
+  access-joined {who = who} {verb = verb} {address = address} h e f g p q j k m n o b =
+      eight s (headText (l .row) (l .clock)) who verb address (spotText (r .spot)) (ownText (r .own)) (zeroText zero) (10 ∷ []) p q j k m n o b
+      ∙ simp (h, e, f, g)
+
+-- an NMI edge
+module _ (s : Sheet) (row clock only : ℕ) (edge : Bool) where
+  pub edge-none : edge ≡ false → s ≡ puts s (edgeText row clock only edge)
+  unfolding edgeText
+  edge-none h = rw h (sym (puts-none s))
+
+  pub edge-left : edge ≡ true → eqb only 131072 ≡ false → s ≡ puts s (edgeText row clock only edge)
+  unfolding edgeText
+  edge-left h g = rw (h, g) (sym (puts-none s))
+
+  pub edge-joined : {t u : Sheet} → edge ≡ true → eqb only 131072 ≡ true → t ≡ puts s (headText row clock)
+      → u ≡ puts t edgeWords → u ≡ puts s (edgeText row clock only edge)
+  unfolding edgeText
+  edge-joined h g p q = rw (h, g) (then s (headText row clock) edgeWords p q)
+
+-- a cycle
+pub cycle-joined : (s : Sheet) {t u : Sheet} (row only : ℕ) (m : Machine) (log : Log) (edge : Bool) {who : Who} {zero : Bool}
+    → who ≡ whoOf (m .dma) → zero ≡ startsAtZero m
+    → t ≡ puts s (logText (record { row = row; clock = m .board .clock; only = only; who = who }) (m .io .wmadd) zero log)
+    → u ≡ puts t (edgeText row (m .board .clock) only edge) → u ≡ puts s (cycleText row only m log edge)
+unfolding cycleText
+cycle-joined s row only m log edge {who} {zero} e f p q =
+    rw (sym e, sym f)
+    (then s (logText (record { row = row; clock = m .board .clock; only = only; who = who }) (m .io .wmadd) zero log)
+    (edgeText row (m .board .clock) only edge) p q)
+
+-- cycles held
+module _ (s : Sheet) (row clock only held count : ℕ) where
+  pub held-none : eqb only 131072 ≡ false → s ≡ puts s (heldText row clock only held count)
+  unfolding heldText
+  held-none h = rw h (sym (puts-none s))
+
+  pub held-joined : {t u v w x y : Sheet} → eqb only 131072 ≡ true → t ≡ puts s (headText row clock)
+      → u ≡ puts t heldWord → v ≡ puts u (decimal held)
+      → w ≡ puts v ofWord → x ≡ puts w (decimal count) → y ≡ puts x cyclesWord
+      → y ≡ puts s (heldText row clock only held count)
+  unfolding heldText
+  held-joined h p q r z m n =
+      rw h
+      (six s (headText row clock) heldWord (decimal held) ofWord (decimal count) cyclesWord p q r z m n)
+
+-- where back steps lead to
+module _ (s : Sheet) (v : ℕ) where
+  pub origin-first : {t u : Sheet} → eqb (v % 65536) 0 ≡ true → t ≡ puts s beforeWords → u ≡ puts t (decimal (v / 65536))
+      → u ≡ puts s (originText v)
+  unfolding originText
+  origin-first h p q = rw h (then s beforeWords (decimal (v / 65536)) p q)
+
+  pub origin-later : {t u w x : Sheet} → eqb (v % 65536) 0 ≡ false → t ≡ puts s afterWords
+      → u ≡ puts t (decimal (v % 65536)) → w ≡ puts u ofRowWords → x ≡ puts w (decimal (v / 65536))
+      → x ≡ puts s (originText v)
+  unfolding originText
+  origin-later h p q r z = rw h (four s afterWords (decimal (v % 65536)) ofRowWords (decimal (v / 65536)) p q r z)
+
+-- steps taken back
+module _ (s : Sheet) (row clock steps count origin : ℕ) where
+  pub back-none : eqb steps 0 ≡ true → s ≡ puts s (backText row clock steps count origin)
+  unfolding backText
+  back-none h = rw h (sym (puts-none s))
+
+  pub back-joined : {t u v w x y z i : Sheet} → eqb steps 0 ≡ false → t ≡ puts s (headText row clock)
+      → u ≡ puts t backWord → v ≡ puts u (decimal steps) → w ≡ puts v ofWord
+      → x ≡ puts w (decimal count) → y ≡ puts x stepsWords → z ≡ puts y (originText origin) → i ≡ puts z (10 ∷ [])
+      → i ≡ puts s (backText row clock steps count origin)
+  unfolding backText
+  back-joined h p q r z m n j k =
+      rw h
+      (eight s (headText row clock) backWord (decimal steps) ofWord (decimal count) stepsWords (originText origin) (10 ∷ []) p q r z m n j k)
+
+-- a refusal
+module _ (s : Sheet) (row clock number : ℕ) where
+  pub refused-none : eqb number 0 ≡ true → s ≡ puts s (refusedText row clock number)
+  unfolding refusedText
+  refused-none h = rw h (sym (puts-none s))
+
+  pub refused-joined : {t u v w x y : Sheet} → eqb number 0 ≡ false → t ≡ puts s (headText row clock)
+      → u ≡ puts t refusalWord → v ≡ puts u (decimal number) → w ≡ puts v (58 ∷ 32 ∷ [])
+      → x ≡ puts w (wordsOf number) → y ≡ puts x (10 ∷ []) → y ≡ puts s (refusedText row clock number)
+  unfolding refusedText
+  refused-joined h p q r z m n = rw h (six s (headText row clock) refusalWord (decimal number) (58 ∷ 32 ∷ []) (wordsOf number) (10 ∷ []) p q r z m n)

@@ -16,7 +16,7 @@ use Rattle.touch.specs.declared.who.Who.{Who}
 use Rattle.wording.specs.Words.{wordsOf}
 use Rattle.listing.specs.Line.{headText, whoText, verbText, addressText, placeText, spotText, ownText, zeroText, shows, accessText}
 use Rattle.listing.specs.Cycle.{edgeWords, logText, edgeText, cycleText}
-use Rattle.listing.specs.Event.{heldWord, ofWord, cyclesWord, beforeWords, afterWords, ofRowWords, backWord, stepsWords, refusalWord, heldText, originText, backText, refusedText}
+use Rattle.listing.specs.Event.{heldWord, ofWord, cyclesWord, beforeWords, afterWords, ofRowWords, backWord, stepsWords, refusalWord, heldText, originText, backText, refusedText, endText}
 use Rattle.listing.specs.declared.line.Line.{Line}
 
 -- texts one after the other
@@ -137,3 +137,19 @@ module _ (s : Sheet) (row clock number : ℕ) where
       → x ≡ puts w (wordsOf number) → y ≡ puts x (10 ∷ []) → y ≡ puts s (refusedText row clock number)
   unfolding refusedText
   refused-joined h p q r z m n = rw h (six s (headText row clock) refusalWord (decimal number) (58 ∷ 32 ∷ []) (wordsOf number) (10 ∷ []) p q r z m n)
+
+-- the end of a row of cycles
+module _ (s : Sheet) (row clock only number held done count : ℕ) where
+  pub end-refused : {t : Sheet} → eqb number 0 ≡ false → t ≡ puts s (refusedText row clock number)
+      → t ≡ puts s (endText row clock only number held done count)
+  unfolding endText
+  end-refused h p = rw h p
+
+  pub end-none : eqb number 0 ≡ true → ltb done count ≡ true → s ≡ puts s (endText row clock only number held done count)
+  unfolding endText
+  end-none h g = rw (h, g) (sym (puts-none s))
+
+  pub end-held : {t : Sheet} → eqb number 0 ≡ true → ltb done count ≡ false → t ≡ puts s (heldText row clock only held count)
+      → t ≡ puts s (endText row clock only number held done count)
+  unfolding endText
+  end-held h g p = rw (h, g) p

@@ -1,7 +1,7 @@
 -- The lines that are about a whole row (docs/MOVES.md): cycles held, steps taken back, a refusal (document 01's table) in words.
 use Prim.Native.Nat.{ℕ, _/_, _%_}
 use mathlib.Core.List.{List, [], _∷_, _++_}
-use lib.Dec.{eqb}
+use lib.Dec.{eqb, ltb}
 use Rattle.common.specs.Pick.{pick}
 use Rattle.append.specs.Number.{decimal}
 use Rattle.wording.specs.Words.{wordsOf}
@@ -75,3 +75,8 @@ refusedText row clock number =
     (headText row clock
     ++ (refusalWord
     ++ (decimal number ++ ((58 ∷ 32 ∷ []) ++ (wordsOf number ++ (10 ∷ []))))))
+
+-- a cycle of a row that is refused, or is the last of its count; nothing after any other
+unfoldable pub endText : ℕ → ℕ → ℕ → ℕ → ℕ → ℕ → ℕ → List ℕ
+endText row clock only number held done count =
+    pick (eqb number 0) (pick (ltb done count) [] (heldText row clock only held count)) (refusedText row clock number)

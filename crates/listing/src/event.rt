@@ -2,7 +2,7 @@
 ghost use mathlib.Core.Path.{_≡_};
 ghost use denote.Ref.{now};
 ghost use Rattle.append.specs.Sheet.{sheet, puts};
-ghost use Rattle.listing.specs.Event.{heldText, originText, backText, refusedText};
+ghost use Rattle.listing.specs.Event.{heldText, originText, backText, refusedText, endText};
 use crate::line::head;
 use append::number::decimal;
 use append::put;
@@ -85,4 +85,27 @@ pub fn put_refused(out: &mut [u8], at: usize, row: u64, clock: u64, number: u8) 
     let d = put(out, c, b": ");
     let e = words(out, d, number);
     put(out, e, b"\n")
+}
+
+// The end of a row of cycles: a refusal, or after the last cycle how many were held.
+pub fn put_end(
+    out: &mut [u8],
+    at: usize,
+    row: u64,
+    clock: u64,
+    only: u32,
+    number: u8,
+    held: u16,
+    done: u16,
+    count: u16,
+) -> usize
+    ensures { λ r. ⌜ sheet (now (out .exit)) r ≡ puts (sheet (now (out .entry)) at) (endText row clock only number held done count) ⌝ }
+{
+    if number != 0 {
+        return put_refused(out, at, row, clock, number);
+    }
+    if done < count {
+        return at;
+    }
+    put_held(out, at, row, clock, only, held, count)
 }

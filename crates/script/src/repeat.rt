@@ -16,13 +16,13 @@ pub struct Ran {
 }
 
 // Event and flags hold for the first cycle of a row.
-fn first_of(i: u16, x: u8) -> u8
+pub fn first_of(i: u16, x: u8) -> u8
     ensures { λ r. ⌜ r ≡ firstOf i x ⌝ }
 {
     if i == 0 { x } else { 0 }
 }
 
-fn first_flag(i: u16, x: bool) -> bool
+pub fn first_flag(i: u16, x: bool) -> bool
     ensures { λ r. ⌜ r ≡ firstFlag i x ⌝ }
 {
     if i == 0 { x } else { false }

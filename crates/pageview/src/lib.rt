@@ -1,19 +1,18 @@
 // The program page: reads a place and a bench file, runs it, and writes the page that holds the place. What is wrong goes to standard
 // error in one line.
-pub mod message;
 pub mod run;
 
 use bench::page::page_look;
 use benchfile::part::part;
+use complaint::argument;
+use complaint::no_place;
+use complaint::refused;
 use dump::page::dump_page;
 use dump::place::place;
 use input::read_all;
-use libc::ENAMETOOLONG;
 use libc::STDERR_FILENO;
 use libc::STDIN_FILENO;
 use libc::STDOUT_FILENO;
-use message::no_place;
-use message::refused;
 use run::run_file;
 
 // 16 lines of 78 bytes.
@@ -31,7 +30,7 @@ fn show(file: &[u8], page: u16) {
     let mut high = [0u8; 65536];
     let e = run_file(file, &mut low, &mut high);
     if e.number != 0 {
-        refused(e.row, e.number);
+        refused(b"page", e.row, e.number);
         if e.row == 0 {
             return;
         }
@@ -50,15 +49,6 @@ fn with_page(page: u16) {
     show(part(&file, 0, got.n), page);
 }
 
-// The length of the argument; of a long one the buffer has the start.
-fn argument(buf: &mut [u8]) -> usize {
-    let n = os::arg(1, buf);
-    if os::errno() == ENAMETOOLONG {
-        return buf.len();
-    }
-    n
-}
-
 pub fn page() {
     if os::arg_count() != 2 {
         io::write_all(
@@ -71,7 +61,7 @@ pub fn page() {
     let n = argument(&mut buf);
     let at = place(part(&buf, 0, n));
     if at > 131071 {
-        no_place(part(&buf, 0, n));
+        no_place(b"page", part(&buf, 0, n));
         return;
     }
     with_page((at / 256) as u16);

@@ -1,0 +1,4 @@
+// Lists every move of the bench file on standard input.
+fn main() {
+    moveview::moves();
+}

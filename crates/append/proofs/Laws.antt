@@ -8,6 +8,8 @@ use lib.ListN.{length, take, drop, set, getD, replicate, length-set, drop-of-len
 use lib.Seq.{drop-cons, take-suc-set}
 use borrow.Author.Tests.{lt-ltb, le-ltb}
 use Rattle.append.specs.Sheet.{Sheet, sheet, push, puts}
+use Rattle.append.specs.Number.{hexByte, hexes}
+use Rattle.append.specs.Texts.{each}
 
 -- two lists one after the other
 pub puts-append : (s : Sheet) (a b : List ℕ) → puts s (a ++ b) ≡ puts (puts s a) b
@@ -54,6 +56,33 @@ again-next s {t} c n i h e = let m : n - i ≡ suc (n - (i + 1)) = omega arith i
 pub again-end : (s : Sheet) (c n i : ℕ) → n ≤ i → puts s (replicate (n - i) c) ≡ s
 unfolding puts
 again-end s c n i h = let m : n - i ≡ 0 = omega arith in rw m
+
+-- the bytes of a list in base 16
+pub hexes-next : (s : Sheet) {t u : Sheet} (w l : List ℕ) (i : ℕ) → i < length l → t ≡ puts s w → u ≡ puts t (hexByte (getD l i 0))
+    → puts s (hexes w (drop i l)) ≡ puts u (hexes w (drop (i + 1) l))
+unfolding hexes
+hexes-next s w l i h p q =
+    rw (add-one, drop-cons l i 0 h)
+    (first s w (hexByte (getD l i 0) ++ hexes w (drop (suc i) l)) p ∙ first _ (hexByte (getD l i 0)) (hexes w (drop (suc i) l)) q)
+
+pub hexes-end : (s : Sheet) (w l : List ℕ) (i : ℕ) → length l ≤ i → puts s (hexes w (drop i l)) ≡ s
+unfolding hexes puts
+hexes-end s w l i h = rw (drop-of-length-le l h)
+
+-- texts by their numbers, up to n
+module _ (s : Sheet) (f : ℕ → List ℕ) (n : ℕ) where
+  pub each-start : puts s (each f n 0) ≡ puts s (each f (n - 0) 0)
+  each-start = let m : n - 0 ≡ n = omega arith in rw m
+
+  pub each-next : {t : Sheet} {x : List ℕ} (k : ℕ) → k < n → t ≡ puts s x → x ≡ f k → puts s (each f (n - k) k) ≡ puts t (each f (n - (k + 1)) (k + 1))
+  unfolding each
+  each-next k h e q =
+      let m : n - k ≡ suc (n - (k + 1)) = omega arith in
+      rw m (first s (f k) (each f (n - (k + 1)) (k + 1)) (e ∙ ap (puts s) q))
+
+  pub each-end : (k : ℕ) → n ≤ k → puts s (each f (n - k) k) ≡ s
+  unfolding each puts
+  each-end k h = let m : n - k ≡ 0 = omega arith in rw m
 
 -- with room, a byte is stored
 pub push-room : (l : List ℕ) (n c : ℕ) → n < length l → push (sheet l n) c ≡ sheet (set l n c) (n + 1)

@@ -1,14 +1,14 @@
 -- One character and a whole text, gathered; the parts of a file, bound.
-use Prim.Native.Nat.{ℕ, suc, _+_, _≤_, _<_}
+use Prim.Native.Nat.{ℕ, _+_, _≤_, _<_}
 use mathlib.Core.List.{List, [], _∷_, _++_}
 use mathlib.Core.Bool.{Bool, true, false}
-use mathlib.Core.Path.{_≡_, refl, sym, ap, subst, _∙_}
+use mathlib.Core.Path.{_≡_, refl, sym, ap, _∙_}
 use native.Mathlib.Numerals.{add-one}
 use lib.ListN.{length, drop, getD, drop-of-length-le, replicate}
 use lib.Seq.{drop-cons}
 use Rattle.common.specs.Pick.{pick}
 use Rattle.append.specs.Sheet.{Sheet, sheet, puts}
-use Rattle.lister.proofs.Join.{then}
+use Rattle.append.proofs.Laws.{then}
 use Rattle.reader.specs.declared.reader.Reader.{Reader}
 use Rattle.reader.specs.Reader.{startOf, readOf}
 use Rattle.assembler.specs.Desk.{State, frontOf, romOf, scriptOf, stepped, runs, opened, gathered}

@@ -1,5 +1,5 @@
 -- Assemble of list is the file.
-use Prim.Native.Nat.{ℕ, _+_, _≤_}
+use Prim.Native.Nat.{ℕ, _≤_}
 use mathlib.Core.List.{List, [], _++_}
 use mathlib.Core.Path.{_≡_, sym, ap, subst, _∙_}
 use native.Mathlib.Omega.{arith}
@@ -38,10 +38,13 @@ module _ (f : List ℕ) (small : Bytes f) (sound : fileCheck f ≡ 0) where
   unfolding listText
   text-short =
       let l = length-build settings ram image script in
-      let a = settings-short (twoAt settings 0) in
+      let h = of.bytes f small sound 0 in
+      let h₀ = h 0 in
+      let h₁ = h 1 in
+      let a = settings-short (twoAt settings 0) (omega arith) in
       let b = lines-short fillWord (omega arith) ram in
       let c = lines-short romWord (omega arith) image in
-      let d = script-short script in
+      let d = script-short script (of.bytes f small sound 3) in
       simp length-append (omega (arith, l, of.short f small sound, of.two f small sound, a, b, c, d))
 
   -- and has no file name in it

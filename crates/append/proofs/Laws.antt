@@ -7,7 +7,7 @@ use native.Mathlib.Omega.{arith}
 use lib.ListN.{length, take, drop, set, getD, replicate, length-set, drop-of-length-le}
 use lib.Seq.{drop-cons, take-suc-set}
 use borrow.Author.Tests.{lt-ltb, le-ltb}
-use Rattle.append.specs.Sheet.{Sheet, sheet, push, puts}
+use Rattle.append.specs.Sheet.{Sheet, sheet, push, puts, shownOf}
 use Rattle.append.specs.Number.{hexByte, hexes}
 use Rattle.append.specs.Texts.{each}
 
@@ -94,13 +94,9 @@ pub push-full : (l : List ℕ) (n c : ℕ) → length l ≤ n → push (sheet l 
 unfolding push
 push-full l n c h = rw (le-ltb n (length l) h)
 
--- what stands in the buffer up to the next place
-abbrev pub shown : Sheet → List ℕ
-shown s = take (s .at) (s .text)
-
 -- with room for all of them the bytes stand behind what was there
 pub puts-room : (xs l : List ℕ) (n : ℕ) → n + length xs ≤ length l
-    → (shown (puts (sheet l n) xs) ≡ take n l ++ xs) × (puts (sheet l n) xs .at ≡ n + length xs)
+    → (shownOf (puts (sheet l n) xs) ≡ take n l ++ xs) × (puts (sheet l n) xs .at ≡ n + length xs)
 unfolding puts
 puts-room [] l n h = (sym (append-nil (take n l)), omega arith)
 puts-room (x ∷ xs) l n h =
@@ -108,5 +104,5 @@ puts-room (x ∷ xs) l n h =
     let room : n + 1 + length xs ≤ length (set l n x) = simp length-set (omega arith) in
     let r = puts-room xs (set l n x) (n + 1) room in
     let t : take (n + 1) (set l n x) ≡ take n l ++ (x ∷ []) = rw add-one (take-suc-set l n x here) in
-    let P : Sheet → Type 0 = λ (s : Sheet). (shown (puts s xs) ≡ take n l ++ (x ∷ xs)) × (puts s xs .at ≡ n + suc (length xs)) in
+    let P : Sheet → Type 0 = λ (s : Sheet). (shownOf (puts s xs) ≡ take n l ++ (x ∷ xs)) × (puts s xs .at ≡ n + suc (length xs)) in
     subst P (sym (push-room l n x here)) (r .0 ∙ rw t (append-assoc (take n l) (x ∷ []) xs), r .1 ∙ omega arith)

@@ -4,7 +4,7 @@ use mathlib.Core.List.{List, [], _++_}
 use mathlib.Core.Path.{_≡_, sym, ap, subst, _∙_}
 use native.Mathlib.Omega.{arith}
 use lib.ListN.{length, replicate, length-append}
-use Rattle.append.specs.Sheet.{Sheet, sheet, puts}
+use Rattle.append.specs.Sheet.{Sheet, sheet, puts, shownOf}
 use Rattle.append.proofs.Laws.{puts-append, puts-room}
 use Rattle.benchfile.specs.Bytes.{twoAt, Bytes}
 use Rattle.benchfile.specs.File.{fileCheck}
@@ -12,12 +12,12 @@ use Rattle.reader.specs.Reader.{startOf, unnamedOf}
 use Rattle.lister.specs.Body.{fillWord, romWord}
 use Rattle.lister.specs.List.{listText}
 use Rattle.assembler.specs.Desk.{State, stepped, runs, opened, gathered}
-use Rattle.assembler.specs.Assemble.{shownOf, said, assembled}
+use Rattle.assembler.specs.Assemble.{said, left, assembled}
 use Rattle.bothways.proofs.Lines.{Scripted}
 use Rattle.bothways.proofs.Says.{says, nameless}
 use Rattle.bothways.proofs.Room.{settings-short, lines-short, script-short}
 use Rattle.bothways.proofs.Bound.{length-build, there, finished-file}
-use Rattle.bothways.proofs.Finish.{left, bodies}
+use Rattle.bothways.proofs.Finish.{bodies}
 use Rattle.bothways.proofs.Sections as of
 
 module _ (f : List ℕ) (small : Bytes f) (sound : fileCheck f ≡ 0) where

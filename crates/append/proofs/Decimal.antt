@@ -1,11 +1,11 @@
 -- The kit's digits of a number, as many as are needed, are its digits in decimal.
 use Prim.Native.Nat.{ℕ, zero, suc, _+_, _*_, _/_, _%_, _^_, _-_, _≤_, _<_}
 use mathlib.Core.Bool.{Bool, true, false}
-use mathlib.Core.List.{List, [], _∷_, _++_}
+use mathlib.Core.List.{List}
 use mathlib.Core.Path.{_≡_, refl, sym, ap, _∙_}
 use native.Mathlib.Numerals.{unary-clauses}
 use native.Mathlib.Omega.{arith}
-use native.Mathlib.Nat.{pow-succ', pow-zero, one-le-pow, mod-eq-of-lt, pow-le-pow-right}
+use native.Mathlib.Nat.{pow-succ', one-le-pow, mod-eq-of-lt, pow-le-pow-right}
 use lib.Dec.{leb, ltb}
 use lib.ListN.{length, take, replicate, length-append}
 use lib.Seq.{length-take-le}
@@ -31,6 +31,22 @@ most-in (suc k) n =
 pub most : (n : ℕ) → length (decimal n) ≤ 20
 unfolding decimal
 most n = most-in 20 n
+
+-- a number under 10^k has at most k digits, whatever room there is for more
+short-in : (f k n : ℕ) → n < 10 ^ suc k → length (decimalIn f n) ≤ suc k
+unfolding decimalIn
+short-in zero k n h = omega arith
+short-in (suc f) zero n h =
+    let p : n < 10 = omega arith in
+    rw (lt-ltb n 10 p) (omega arith)
+short-in (suc f) (suc k) n h =
+    let p : n < 10 * 10 ^ suc k = rw pow-succ' at h in
+    let q = short-in f k (n / 10) (omega arith) in
+    either (ltb n 10) _ _ (suc (suc k)) (omega arith) (simp length-append (omega arith))
+
+pub short : (k n : ℕ) → n < 10 ^ suc k → length (decimal n) ≤ suc k
+unfolding decimal
+short k n h = short-in 20 k n h
 
 digit : (n : ℕ) → glyph (n % 10) ≡ 48 + n % 10
 digit n = rw (lt-ltb (n % 10) 10 (omega arith))

@@ -7,7 +7,9 @@ use native.Mathlib.Omega.{arith}
 use lib.ListN.{length, take, drop, set, getD, replicate, length-set, drop-of-length-le}
 use lib.Seq.{drop-cons, take-suc-set}
 use borrow.Author.Tests.{lt-ltb, le-ltb}
-use Rattle.append.specs.Sheet.{Sheet, sheet, push, puts}
+use Rattle.append.specs.Sheet.{Sheet, sheet, push, puts, shownOf}
+use Rattle.append.specs.Number.{hexByte, hexes}
+use Rattle.append.specs.Texts.{each}
 
 -- two lists one after the other
 pub puts-append : (s : Sheet) (a b : List ℕ) → puts s (a ++ b) ≡ puts (puts s a) b
@@ -55,6 +57,33 @@ pub again-end : (s : Sheet) (c n i : ℕ) → n ≤ i → puts s (replicate (n -
 unfolding puts
 again-end s c n i h = let m : n - i ≡ 0 = omega arith in rw m
 
+-- the bytes of a list in base 16
+pub hexes-next : (s : Sheet) {t u : Sheet} (w l : List ℕ) (i : ℕ) → i < length l → t ≡ puts s w → u ≡ puts t (hexByte (getD l i 0))
+    → puts s (hexes w (drop i l)) ≡ puts u (hexes w (drop (i + 1) l))
+unfolding hexes
+hexes-next s w l i h p q =
+    rw (add-one, drop-cons l i 0 h)
+    (first s w (hexByte (getD l i 0) ++ hexes w (drop (suc i) l)) p ∙ first _ (hexByte (getD l i 0)) (hexes w (drop (suc i) l)) q)
+
+pub hexes-end : (s : Sheet) (w l : List ℕ) (i : ℕ) → length l ≤ i → puts s (hexes w (drop i l)) ≡ s
+unfolding hexes puts
+hexes-end s w l i h = rw (drop-of-length-le l h)
+
+-- texts by their numbers, up to n
+module _ (s : Sheet) (f : ℕ → List ℕ) (n : ℕ) where
+  pub each-start : puts s (each f n 0) ≡ puts s (each f (n - 0) 0)
+  each-start = let m : n - 0 ≡ n = omega arith in rw m
+
+  pub each-next : {t : Sheet} {x : List ℕ} (k : ℕ) → k < n → t ≡ puts s x → x ≡ f k → puts s (each f (n - k) k) ≡ puts t (each f (n - (k + 1)) (k + 1))
+  unfolding each
+  each-next k h e q =
+      let m : n - k ≡ suc (n - (k + 1)) = omega arith in
+      rw m (first s (f k) (each f (n - (k + 1)) (k + 1)) (e ∙ ap (puts s) q))
+
+  pub each-end : (k : ℕ) → n ≤ k → puts s (each f (n - k) k) ≡ s
+  unfolding each puts
+  each-end k h = let m : n - k ≡ 0 = omega arith in rw m
+
 -- with room, a byte is stored
 pub push-room : (l : List ℕ) (n c : ℕ) → n < length l → push (sheet l n) c ≡ sheet (set l n c) (n + 1)
 unfolding push
@@ -65,13 +94,9 @@ pub push-full : (l : List ℕ) (n c : ℕ) → length l ≤ n → push (sheet l 
 unfolding push
 push-full l n c h = rw (le-ltb n (length l) h)
 
--- what stands in the buffer up to the next place
-abbrev pub shown : Sheet → List ℕ
-shown s = take (s .at) (s .text)
-
 -- with room for all of them the bytes stand behind what was there
 pub puts-room : (xs l : List ℕ) (n : ℕ) → n + length xs ≤ length l
-    → (shown (puts (sheet l n) xs) ≡ take n l ++ xs) × (puts (sheet l n) xs .at ≡ n + length xs)
+    → (shownOf (puts (sheet l n) xs) ≡ take n l ++ xs) × (puts (sheet l n) xs .at ≡ n + length xs)
 unfolding puts
 puts-room [] l n h = (sym (append-nil (take n l)), omega arith)
 puts-room (x ∷ xs) l n h =
@@ -79,5 +104,5 @@ puts-room (x ∷ xs) l n h =
     let room : n + 1 + length xs ≤ length (set l n x) = simp length-set (omega arith) in
     let r = puts-room xs (set l n x) (n + 1) room in
     let t : take (n + 1) (set l n x) ≡ take n l ++ (x ∷ []) = rw add-one (take-suc-set l n x here) in
-    let P : Sheet → Type 0 = λ (s : Sheet). (shown (puts s xs) ≡ take n l ++ (x ∷ xs)) × (puts s xs .at ≡ n + suc (length xs)) in
+    let P : Sheet → Type 0 = λ (s : Sheet). (shownOf (puts s xs) ≡ take n l ++ (x ∷ xs)) × (puts s xs .at ≡ n + suc (length xs)) in
     subst P (sym (push-room l n x here)) (r .0 ∙ rw t (append-assoc (take n l) (x ∷ []) xs), r .1 ∙ omega arith)

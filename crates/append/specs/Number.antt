@@ -29,3 +29,8 @@ hexByte x = glyphOf (x / 16) ∷ glyphOf x ∷ []
 -- a word: four
 abbrev pub hexWord : ℕ → List ℕ
 hexWord x = hexByte (x / 256) ++ hexByte (x % 256)
+
+-- bytes, each behind w
+unfoldable pub hexes : List ℕ → List ℕ → List ℕ
+hexes w [] = []
+hexes w (x ∷ l) = w ++ (hexByte x ++ hexes w l)

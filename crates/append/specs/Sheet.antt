@@ -1,7 +1,7 @@
 -- A buffer that is filled from the front: its bytes, and the place of the next one.
 use Prim.Native.Nat.{ℕ, _+_}
 use mathlib.Core.List.{List, [], _∷_}
-use lib.ListN.{length, set}
+use lib.ListN.{length, set, take}
 use lib.Dec.{ltb}
 use Rattle.common.specs.Pick.{pick}
 
@@ -20,3 +20,7 @@ push s c = pick (ltb (s .at) (length (s .text))) (sheet (set (s .text) (s .at) c
 unfoldable pub puts : Sheet → List ℕ → Sheet
 puts s [] = s
 puts s (c ∷ t) = puts (push s c) t
+
+-- what stands in it so far
+abbrev pub shownOf : Sheet → List ℕ
+shownOf s = take (s .at) (s .text)

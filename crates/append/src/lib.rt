@@ -2,7 +2,6 @@
 pub mod number;
 
 ghost use mathlib.Core.Path.{_≡_};
-ghost use mathlib.Core.List.{[], _∷_};
 ghost use denote.Ref.{now};
 ghost use Rattle.append.specs.Sheet.{sheet, push};
 ghost use Rattle.append.specs.Sheet.{puts};

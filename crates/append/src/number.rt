@@ -5,7 +5,7 @@ ghost use lib.ListN.{replicate};
 ghost use denote.Ref.{now};
 ghost use Rattle.append.specs.Sheet.{sheet, puts};
 ghost use Rattle.append.specs.Number.{glyphOf, hexByte, hexWord};
-ghost use Rattle.append.specs.Number.{decimal as Number·decimal, padded as Number·padded};
+ghost use Rattle.append.specs.Number.{hexes as Number·hexes, decimal as Number·decimal, padded as Number·padded};
 use crate::push_byte;
 use crate::put;
 
@@ -31,6 +31,20 @@ pub fn hex_word(out: &mut [u8], at: usize, x: u16) -> usize
 {
     let a = hex_byte(out, at, (x / 256) as u8);
     hex_byte(out, a, (x % 256) as u8)
+}
+
+// Bytes in base 16, each behind `before`.
+pub fn hexes(out: &mut [u8], at: usize, before: &[u8], s: &[u8]) -> usize
+    ensures { λ r. ⌜ sheet (now (out .exit)) r ≡ puts (sheet (now (out .entry)) at) (Number·hexes (now (before .entry)) (now (s .entry))) ⌝ }
+{
+    let mut to = at;
+    let mut i = 0;
+    while i < s.len() {
+        let a = put(out, to, before);
+        to = hex_byte(out, a, s[i]);
+        i += 1;
+    }
+    to
 }
 
 // A number in decimal.

@@ -1,19 +1,18 @@
 -- One character and a whole text, gathered; the parts of a file, bound.
-use Prim.Native.Nat.{ℕ, suc, _+_, _≤_, _<_}
+use Prim.Native.Nat.{ℕ, _+_, _≤_, _<_}
 use mathlib.Core.List.{List, [], _∷_, _++_}
 use mathlib.Core.Bool.{Bool, true, false}
-use mathlib.Core.Path.{_≡_, refl, sym, ap, subst, _∙_}
+use mathlib.Core.Path.{_≡_, refl, sym, ap, _∙_}
 use native.Mathlib.Numerals.{add-one}
 use lib.ListN.{length, drop, getD, drop-of-length-le, replicate}
 use lib.Seq.{drop-cons}
-use Rattle.common.specs.Pick.{pick}
-use Rattle.append.specs.Sheet.{Sheet, sheet, puts}
-use Rattle.lister.proofs.Join.{then}
+use Rattle.append.specs.Sheet.{Sheet, sheet, puts, shownOf}
+use Rattle.append.proofs.Laws.{then}
 use Rattle.reader.specs.declared.reader.Reader.{Reader}
 use Rattle.reader.specs.Reader.{startOf, readOf}
 use Rattle.assembler.specs.Desk.{State, frontOf, romOf, scriptOf, stepped, runs, opened, gathered}
 use Rattle.assembler.specs.Bind.{sizeOf, fillSize, contentsText, bound}
-use Rattle.assembler.specs.Assemble.{readyOf, checked, finished, shownOf, said, assembled}
+use Rattle.assembler.specs.Assemble.{readyOf, checked, finished, said, left, assembled}
 
 abbrev made : Reader → Sheet → Sheet → Sheet → State
 made r f o s = record { reader = r; front = f; rom = o; script = s }
@@ -61,10 +60,6 @@ gathered-by file f o s text e p q =
     q
     ∙ ap (λ (x : State). stepped file x 10)
     (p ∙ ap (λ (x : Reader). runs file (made x (sheet f 0) (sheet o 0) (sheet s 0)) text) e)
-
--- what is left of a text that says s
-abbrev left : List ℕ → State → Sheet
-left out s = pick (readyOf (s .reader .draft)) (finished out (shownOf (s .front)) (shownOf (s .rom)) (shownOf (s .script))) (sheet out 0)
 
 module _ (out text file : List ℕ) (s : State) (e : s ≡ said file text) where
   pub assembled-ready : {a b c : List ℕ} {w : Sheet} {t : Bool} → t ≡ readyOf (s .reader .draft) → t ≡ true → a ≡ shownOf (s .front)

@@ -5,7 +5,7 @@ use mathlib.Core.List.{List}
 use lib.Dec.{eqb, leb}
 use lib.ListN.{replicate}
 use Rattle.common.specs.Pick.{pick}
-use Rattle.append.specs.Sheet.{Sheet, sheet, puts}
+use Rattle.append.specs.Sheet.{Sheet, sheet, puts, shownOf}
 use Rattle.benchfile.specs.Bytes.{partOf}
 use Rattle.benchfile.specs.File.{fileCheck}
 use Rattle.reader.specs.declared.draft.Draft.{Draft}
@@ -26,16 +26,15 @@ finished out front rom script =
     let p = puts (sheet out 0) (bound front rom script) in
     sheet (p .text) (checked (p .text) (p .at))
 
--- the bytes of a buffer up to its place
-abbrev pub shownOf : Sheet → List ℕ
-shownOf s = partOf (s .text) 0 (s .at)
-
 -- what a text says, in fresh buffers: one byte longer than a fill, a ROM or a script may be
 unfoldable pub said : List ℕ → List ℕ → State
 said file text = gathered file (opened (replicate 4099 0) (replicate 65537 0) (replicate 65537 0)) text
 
--- the file at the start of out, and its length; 0 where the text says none
-unfoldable pub assembled : List ℕ → List ℕ → List ℕ → Sheet
-assembled out text file =
-    let s = said file text in
+-- what is left in out of a text that says s: the file and its length, or 0
+abbrev pub left : List ℕ → State → Sheet
+left out s =
     pick (readyOf (s .reader .draft)) (finished out (shownOf (s .front)) (shownOf (s .rom)) (shownOf (s .script))) (sheet out 0)
+
+-- the file that a text says, at the start of out
+unfoldable pub assembled : List ℕ → List ℕ → List ℕ → Sheet
+assembled out text file = left out (said file text)

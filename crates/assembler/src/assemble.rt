@@ -1,11 +1,10 @@
 // The text of a bench file to the file.
 ghost use mathlib.Core.Path.{_≡_};
 ghost use denote.Ref.{now};
-ghost use Rattle.append.specs.Sheet.{sheet, puts};
+ghost use Rattle.append.specs.Sheet.{sheet};
 ghost use Rattle.assembler.specs.Assemble.{readyOf, checked, finished, assembled};
 use crate::bind::bind;
 use crate::desk::gather;
-use append::put;
 use benchfile::check::file_check;
 use benchfile::part::part;
 use reader::draft::Draft;

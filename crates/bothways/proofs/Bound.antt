@@ -5,12 +5,12 @@ use mathlib.Core.Path.{_≡_, refl}
 use native.Mathlib.Omega.{arith}
 use lib.ListN.{length, replicate, length-append, length-replicate}
 use borrow.Author.Tests.{lt-ltb, le-ltb}
-use Rattle.append.specs.Sheet.{Sheet, sheet, puts}
+use Rattle.append.specs.Sheet.{Sheet, sheet, puts, shownOf}
 use Rattle.append.proofs.Laws.{puts-room}
 use Rattle.benchfile.specs.File.{fileCheck}
 use Rattle.benchfile.specs.Build.{contentsOf, build}
 use Rattle.assembler.specs.Bind.{sizeOf, fillSize, headOf, contentsText, bound}
-use Rattle.assembler.specs.Assemble.{checked, finished, shownOf}
+use Rattle.assembler.specs.Assemble.{checked, finished}
 
 -- fresh buffers
 pub kept : (n : ℕ) (l : List ℕ) → length l ≤ n → shownOf (puts (sheet (replicate n 0) 0) l) ≡ l

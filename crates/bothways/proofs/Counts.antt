@@ -12,7 +12,7 @@ use Rattle.reader.specs.Draft.{draft, mayOf, keywordOf, switchOf}
 use Rattle.reader.specs.Line.{fitsOf, numberOf, namedOf, takenOf, closingOf, lineOf}
 use Rattle.reader.specs.Reader.{reader, shutOf, spacedOf, plainOf, stepOf, readOf}
 use Rattle.bothways.proofs.Quietly.{quietly}
-use Rattle.lister.specs.Digits.{glyphOf, decimalOf}
+use Rattle.append.specs.Number.{glyphOf, decimal}
 use Rattle.lister.specs.Row.{wordText, onWord, offWord, padText, plugText, backText}
 use Rattle.bothways.proofs.Digits.{byte-2, byte-3}
 use Rattle.bothways.proofs.Decimal.{decimal-back}
@@ -53,7 +53,7 @@ pub back-back : (n : ℕ) → 1 ≤ n → n < 65536 → (k x₁ x₂ x₃ x₄ :
     → quietly (before p k x₁ x₂ x₃ x₄ 0) (backText n) ≡ before 4 7 (n % 256) (n / 256) 0 0 3
 unfolding backText
 back-back n f l k x₁ x₂ x₃ x₄ p o =
-    back-word k x₁ x₂ x₃ x₄ (decimalOf n ++ (10 ∷ [])) p o
+    back-word k x₁ x₂ x₃ x₄ (decimal n ++ (10 ∷ [])) p o
     ∙ decimal-back 4 15 7 0 0 0 0 n (10 ∷ []) l
     ∙ back-end n f l
 
@@ -100,7 +100,7 @@ module _ (n : ℕ) (l : n < 256) where
       → quietly (before p k x₁ x₂ x₃ x₄ 0) (padText n a h) ≡ before 4 4 n a h 0 3
   unfolding padText
   pad-back a h k x₁ x₂ x₃ x₄ la lh p o =
-      pad-word k x₁ x₂ x₃ x₄ (decimalOf n ++ wordText a h) p o
+      pad-word k x₁ x₂ x₃ x₄ (decimal n ++ wordText a h) p o
       ∙ decimal-back 4 6 4 0 0 0 0 n (wordText a h) (omega arith)
       ∙ pad-dollar (glyphOf (h / 16) ∷ glyphOf h ∷ glyphOf (a / 16) ∷ glyphOf a ∷ 10 ∷ [])
       ∙ byte-2 4 7 4 n 0 0 0 (glyphOf (a / 16) ∷ glyphOf a ∷ 10 ∷ []) 0 h lh
@@ -131,10 +131,10 @@ module _ (n : ℕ) (l : n < 256) where
       → quietly (before p k x₁ x₂ x₃ x₄ 0) (plugText n (bit b)) ≡ before 4 5 n (bit b) 0 0 3
   unfolding plugText
   plug-back true k x₁ x₂ x₃ x₄ p o =
-      plug-word k x₁ x₂ x₃ x₄ (decimalOf n ++ onWord) p o
+      plug-word k x₁ x₂ x₃ x₄ (decimal n ++ onWord) p o
       ∙ decimal-back 4 17 5 0 0 0 0 n onWord (omega arith)
       ∙ plug-rest true
   plug-back false k x₁ x₂ x₃ x₄ p o =
-      plug-word k x₁ x₂ x₃ x₄ (decimalOf n ++ offWord) p o
+      plug-word k x₁ x₂ x₃ x₄ (decimal n ++ offWord) p o
       ∙ decimal-back 4 17 5 0 0 0 0 n offWord (omega arith)
       ∙ plug-rest false

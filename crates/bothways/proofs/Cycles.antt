@@ -1,5 +1,5 @@
 -- A cycles row comes back, with its event and flags.
-use Prim.Native.Nat.{ℕ, _+_, _/_, _%_, _≤_, _<_}
+use Prim.Native.Nat.{ℕ, _/_, _%_, _≤_, _<_}
 use mathlib.Core.Bool.{Bool, true, false}
 use mathlib.Core.List.{List, [], _∷_, _++_}
 use mathlib.Core.Path.{_≡_, refl, ap, sym, _∙_}
@@ -14,7 +14,7 @@ use Rattle.reader.specs.Draft.{draft, mayOf, keywordOf, optionOf}
 use Rattle.reader.specs.Line.{fitsOf, numberOf, namedOf, takenOf, closingOf, lineOf}
 use Rattle.reader.specs.Reader.{reader, shutOf, spacedOf, plainOf, stepOf, readOf}
 use Rattle.bothways.proofs.Quietly.{calm, quietly}
-use Rattle.lister.specs.Digits.{decimalOf}
+use Rattle.append.specs.Number.{decimal}
 use Rattle.lister.specs.Row.{eventWord, eventText, flagsText, cyclesText}
 use Rattle.bothways.proofs.Decimal.{decimal-back}
 use Rattle.bothways.proofs.Rows.{Open, fill, rom, rows, before, at}
@@ -101,17 +101,17 @@ module _ (l h v : ℕ) (lv : v < 256) where
   event-word t = refl
 
   -- an event behind the count
-  event : (w : Reader) → calm w ≡ true → readOf w 32 ≡ at 2 1 l h 0 0 → (t : List ℕ) → quietly w ((eventWord ++ decimalOf v) ++ t) ≡ quietly timed t
+  event : (w : Reader) → calm w ≡ true → readOf w 32 ≡ at 2 1 l h 0 0 → (t : List ℕ) → quietly w ((eventWord ++ decimal v) ++ t) ≡ quietly timed t
   unfolding quietly
   event w z s t =
       rw z
-      (ap (λ (x : Reader). quietly x (101 ∷ 118 ∷ 101 ∷ 110 ∷ 116 ∷ 32 ∷ decimalOf v ++ t)) s
-      ∙ event-word (decimalOf v ++ t)
+      (ap (λ (x : Reader). quietly x (101 ∷ 118 ∷ 101 ∷ 110 ∷ 116 ∷ 32 ∷ decimal v ++ t)) s
+      ∙ event-word (decimal v ++ t)
       ∙ decimal-back 4 3 1 l h 0 0 v t (omega arith))
 
 module _ (n v f : ℕ) (f1 : 1 ≤ n) (ln : n < 65536) (lv : v < 256) (flags : Flags f) where
   rest : (b : Bool) → eqb v 0 ≡ b
-      → quietly (counted n f1 ln) (pick b [] (eventWord ++ decimalOf v) ++ (flagsText f ++ (10 ∷ []))) ≡ before 4 1 (n % 256) (n / 256) v f 3
+      → quietly (counted n f1 ln) (pick b [] (eventWord ++ decimal v) ++ (flagsText f ++ (10 ∷ []))) ≡ before 4 1 (n % 256) (n / 256) v f 3
   rest true e =
       let z : 0 ≡ v = sym (eqb-true v 0 e) in
       tail (n % 256) (n / 256) 0 (counted n f1 ln) refl (count-space n f1 ln) (count-end n f1 ln) f flags
@@ -125,6 +125,6 @@ module _ (n v f : ℕ) (f1 : 1 ≤ n) (ln : n < 65536) (lv : v < 256) (flags : F
       → quietly (before p k x₁ x₂ x₃ x₄ 0) (cyclesText n v f) ≡ before 4 1 (n % 256) (n / 256) v f 3
   unfolding cyclesText eventText
   cycles-back k x₁ x₂ x₃ x₄ p o =
-      cycles-word k x₁ x₂ x₃ x₄ (decimalOf n ++ (eventText v ++ (flagsText f ++ (10 ∷ [])))) p o
+      cycles-word k x₁ x₂ x₃ x₄ (decimal n ++ (eventText v ++ (flagsText f ++ (10 ∷ [])))) p o
       ∙ decimal-back 4 1 1 0 0 0 0 n (eventText v ++ (flagsText f ++ (10 ∷ []))) ln
       ∙ rest (eqb v 0) refl

@@ -1,8 +1,8 @@
 -- Digits that are written and read again.
-use Prim.Native.Nat.{ℕ, _+_, _-_, _*_, _/_, _%_, _≤_, _<_}
+use Prim.Native.Nat.{ℕ, _+_, _*_, _/_, _%_, _≤_, _<_}
 use mathlib.Core.Bool.{Bool, true, false}
 use mathlib.Core.List.{List, _∷_}
-use mathlib.Core.Path.{_≡_, refl, _∙_}
+use mathlib.Core.Path.{_≡_, refl, ap, _∙_}
 use native.Mathlib.Omega.{arith}
 use lib.Dec.{ltb}
 use borrow.Author.Tests.{lt-ltb, ltb-true, ltb-false, ne-eqb}
@@ -14,7 +14,7 @@ use Rattle.reader.specs.Word.{word, letterOf}
 use Rattle.reader.specs.Draft.{draft}
 use Rattle.reader.specs.Reader.{reader, plainOf, stepOf, readOf}
 use Rattle.bothways.proofs.Quietly.{quietly}
-use Rattle.lister.specs.Digits.{glyphOf}
+use Rattle.append.specs.Number.{glyphOf}
 
 -- the sign of a digit r below 16
 abbrev sign : Bool → ℕ → ℕ
@@ -49,13 +49,25 @@ module _ (x : ℕ) where
   small : x % 16 < 16
   small = omega arith
 
-  pub glyph-digit : digitOf (glyphOf x) ≡ x % 16
+  glyph-digit : digitOf (glyphOf x) ≡ x % 16
   unfolding glyphOf
   glyph-digit = digit-back (ltb (x % 16) 10) (x % 16) refl small
 
-  pub glyph-sign : signOf (glyphOf x) ≡ 0
+  glyph-sign : signOf (glyphOf x) ≡ 0
   unfolding glyphOf
   glyph-sign = sign-back (ltb (x % 16) 10) (x % 16) refl small
+
+-- a digit of a decimal number
+module _ (y : ℕ) (h : y < 10) where
+  same : 48 + y ≡ glyphOf y
+  unfolding glyphOf
+  same = let e : y % 16 ≡ y = omega arith in rw (e, lt-ltb y 10 h) (omega arith)
+
+  pub ten-digit : digitOf (48 + y) ≡ y
+  ten-digit = let e : y % 16 ≡ y = omega arith in ap digitOf same ∙ glyph-digit y ∙ e
+
+  pub ten-sign : signOf (48 + y) ≡ 0
+  ten-sign = ap signOf same ∙ glyph-sign y
 
 -- a quiet draft
 module _ (p s k x₁ x₂ x₃ x₄ : ℕ) where

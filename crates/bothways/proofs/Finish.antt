@@ -5,13 +5,12 @@ use mathlib.Core.List.{List}
 use mathlib.Core.Path.{_≡_, refl, ap, _∙_}
 use lib.Dec.{eqb}
 use lib.ListN.{length, replicate}
-use Rattle.common.specs.Pick.{pick}
 use Rattle.append.specs.Sheet.{Sheet, sheet, puts}
 use Rattle.reader.specs.Letter.{signOf}
 use Rattle.reader.specs.Line.{lineOf}
 use Rattle.reader.specs.Reader.{shutOf, stepOf, readOf}
 use Rattle.assembler.specs.Desk.{State, frontOf, romOf, scriptOf, stepped}
-use Rattle.assembler.specs.Assemble.{readyOf, finished, shownOf}
+use Rattle.assembler.specs.Assemble.{readyOf, finished, left}
 use Rattle.bothways.proofs.Quietly.{made}
 use Rattle.bothways.proofs.Rows.{Open, fill, rom, rows, before}
 use Rattle.bothways.proofs.Lines.{Scripted}
@@ -29,10 +28,6 @@ unfolding readyOf
 ready k x₁ x₂ x₃ x₄ p fill = refl
 ready k x₁ x₂ x₃ x₄ p rom = refl
 ready k x₁ x₂ x₃ x₄ p rows = refl
-
--- what is left of a text that says s
-abbrev pub left : List ℕ → State → Sheet
-left out s = pick (readyOf (s .reader .draft)) (finished out (shownOf (s .front)) (shownOf (s .rom)) (shownOf (s .script))) (sheet out 0)
 
 -- a text that says three bodies, in buffers with room, is bound and checked
 module _ (out file a b c : List ℕ) (n m q : ℕ) (la : length a ≤ n) (lb : length b ≤ m) (lc : length c ≤ q) where

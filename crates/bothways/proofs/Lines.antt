@@ -6,6 +6,7 @@ use mathlib.Core.Path.{_≡_, refl, sym, ap, subst, _∙_}
 use native.Mathlib.Omega.{arith}
 use lib.ListN.{length, take, drop}
 use lib.Seq.{take-add, drop-drop, take-all}
+use Rattle.append.specs.Texts.{each}
 use Rattle.append.specs.Sheet.{Sheet, puts}
 use Rattle.append.proofs.Laws.{puts-append}
 use Rattle.benchfile.specs.Bytes.{partOf, Bytes}
@@ -18,7 +19,7 @@ use Rattle.reader.specs.Word.{word, letterOf, dollarOf, worthOf}
 use Rattle.reader.specs.Draft.{draft, mayOf, keywordOf}
 use Rattle.reader.specs.Line.{namedOf, takenOf}
 use Rattle.reader.specs.Reader.{reader, shutOf, spacedOf, plainOf, stepOf, readOf}
-use Rattle.lister.specs.Digits.{glyphOf}
+use Rattle.append.specs.Number.{glyphOf, hexes}
 use Rattle.lister.specs.Body.{bytesText, lineText, linesFrom, linesText}
 use Rattle.lister.specs.Row.{rowText}
 use Rattle.lister.specs.List.{rowsText, scriptText}
@@ -94,7 +95,7 @@ module _ (file : List ℕ) (b : Section) (f o s : Sheet) where
         ∙ nothing file b (puts f (toFront b a)) (puts o (toRom b a)) s z 0 true
 
     ran : runs file k (lineText (wordOf b) (z ∷ l)) ≡ gained b (lineRead b (lastOf z l)) (puts f (toFront b a)) (puts o (toRom b a)) s (z ∷ l)
-    unfolding lineText bytesText
+    unfolding lineText hexes
     ran =
         ap (λ (x : State). runs file x (wordOf b ++ (32 ∷ 36 ∷ glyphOf (z / 16) ∷ glyphOf z ∷ (bytesText l ++ (10 ∷ []))))) (r .is)
         ∙ ap (runs file was) (parted b z (bytesText l ++ (10 ∷ [])))
@@ -153,7 +154,7 @@ module _ (file : List ℕ) (b : Section) (f o s : Sheet) (l : List ℕ) (small :
   -- n lines from line i on
   lines-from : (n i : ℕ) (a : List ℕ) (k : State) → Holds file b f o s a k
       → Holds file b f o s (a ++ partOf l (i * 16) (n * 16)) (runs file k (linesFrom (wordOf b) l n i))
-  unfolding linesFrom runs
+  unfolding each runs
   lines-from zero i a k r = subst (λ (x : List ℕ). Holds file b f o s x k) (sym (append-nil a)) r
   lines-from (suc n) i a k r =
       let p : List ℕ = partOf l (i * 16) 16 in
@@ -182,7 +183,7 @@ module _ (file : List ℕ) (f o s : Sheet) where
     -- n rows from row i on
     rows-from : (n i : ℕ) → ((j : ℕ) → j < i + n → formedRow (rowBytes l j) ≡ true) → (a : List ℕ) (k : State) → Scripted a k
         → Scripted (a ++ partOf l (i * 8) (n * 8)) (runs file k (rowsText l n i))
-    unfolding rowsText runs
+    unfolding each runs
     rows-from zero i h a k r = subst (λ (x : List ℕ). Scripted x k) (sym (append-nil a)) r
     rows-from (suc n) i h a k r =
         let p : List ℕ = partOf l (i * 8) 8 in

@@ -5,6 +5,7 @@ use mathlib.Core.List.{List, [], _∷_, _++_}
 use mathlib.Core.Path.{_≡_, refl, sym, ap, subst, _∙_}
 use native.Mathlib.Omega.{arith}
 use lib.ListN.{length}
+use Rattle.append.specs.Texts.{each}
 use Rattle.append.specs.Sheet.{Sheet, puts}
 use Rattle.benchfile.specs.Bytes.{byteAt, partOf, Bytes}
 use Rattle.benchfile.specs.Row.{formedRow, rowBytes}
@@ -13,7 +14,7 @@ use Rattle.benchfile.proofs.Parts.{part-bytes}
 use Rattle.benchfile.proofs.Rows.{script}
 use Rattle.reader.specs.declared.reader.Reader.{Reader}
 use Rattle.reader.specs.Reader.{startOf, readOf, reads}
-use Rattle.lister.specs.Digits.{glyphOf}
+use Rattle.append.specs.Number.{glyphOf, hexes}
 use Rattle.lister.specs.Body.{bytesText, lineText, linesFrom, linesText}
 use Rattle.lister.specs.Row.{rowText}
 use Rattle.lister.specs.List.{settingsText, rowsText, scriptText}
@@ -32,7 +33,7 @@ settings-nameless n h = quietly-unnamed (before 1 8 (n % 256) (n / 256) 0 0 2) r
 
 -- the bytes behind x
 bytes-nameless : (b : Section) (i : Bool) (x y : ℕ) (l : List ℕ) → Bytes (x ∷ l) → Unnamed (byteRead b i x y) (bytesText l ++ (10 ∷ []))
-unfolding bytesText
+unfolding hexes
 bytes-nameless b i x y [] h = unnamed-next (byteRead b i x y) 10 [] refl (unnamed-none (readOf (byteRead b i x y) 10))
 bytes-nameless b i x y (z ∷ l) h =
     let t : List ℕ = bytesText l ++ (10 ∷ []) in
@@ -51,7 +52,7 @@ bytes-nameless b i x y (z ∷ l) h =
 module _ (file : List ℕ) (b : Section) (f o s : Sheet) where
   -- a line of bytes
   line-nameless : (a p : List ℕ) (k : State) → Holds file b f o s a k → Bytes p → Unnamed (k .reader) (lineText (wordOf b) p)
-  unfolding lineText bytesText
+  unfolding lineText hexes
   line-nameless a [] k r small = unnamed-none (k .reader)
   line-nameless a (z ∷ l) k r small =
       let t : List ℕ = bytesText l ++ (10 ∷ []) in
@@ -74,7 +75,7 @@ module _ (file : List ℕ) (b : Section) (f o s : Sheet) where
 
   module _ (l : List ℕ) (small : Bytes l) where
     from-nameless : (n i : ℕ) (a : List ℕ) (k : State) → Holds file b f o s a k → Unnamed (k .reader) (linesFrom (wordOf b) l n i)
-    unfolding linesFrom
+    unfolding each
     from-nameless zero i a k r = unnamed-none (k .reader)
     from-nameless (suc n) i a k r =
         let p : List ℕ = partOf l (i * 16) 16 in
@@ -97,7 +98,7 @@ module _ (file : List ℕ) (f o : Sheet) (l : List ℕ) (small : Bytes l) where
 
   rows-nameless : (n i : ℕ) → ((j : ℕ) → j < i + n → formedRow (rowBytes l j) ≡ true) → (s : Sheet) (p : ℕ) → Open p → (k : State) → Rest p f o s k
       → Unnamed (k .reader) (rowsText l n i)
-  unfolding rowsText
+  unfolding each
   rows-nameless zero i h s p may k r = unnamed-none (k .reader)
   rows-nameless (suc n) i h s p may k r =
       let b : List ℕ = rowBytes l i in

@@ -1,16 +1,19 @@
 -- How long the text of a file can be: the buffers of the programs have room for it.
-use Prim.Native.Nat.{ℕ, zero, suc, _+_, _*_, _/_, _≤_}
+use Prim.Native.Nat.{ℕ, zero, suc, _+_, _*_, _/_, _≤_, _<_}
 use mathlib.Core.Bool.{Bool, true, false}
 use mathlib.Core.List.{List, [], _∷_}
 use mathlib.Core.Path.{_≡_, refl}
 use native.Mathlib.Omega.{arith}
-use lib.Dec.{eqb, ltb}
+use lib.Dec.{eqb}
 use lib.ListN.{length, take, drop, length-append}
+use Rattle.append.specs.Texts.{each}
 use Rattle.common.specs.Pick.{pick}
 use Rattle.common.specs.Table.{Entry, among, find}
-use Rattle.benchfile.specs.Bytes.{byteAt, twoAt, partOf}
+use Rattle.benchfile.specs.Bytes.{byteAt, twoAt, partOf, Bytes}
 use Rattle.benchfile.specs.Row.{rowBytes}
-use Rattle.lister.specs.Digits.{decimalOf}
+use Rattle.benchfile.proofs.Parts.{part-bytes}
+use Rattle.append.proofs.Decimal.{short}
+use Rattle.append.specs.Number.{decimal, hexes}
 use Rattle.lister.specs.Body.{bytesText, lineText, linesFrom, linesText}
 use Rattle.lister.specs.Row.{eventText, flagsText, cyclesText, padText, plugText, backText, onWord, offWord, texts, rowText}
 use Rattle.lister.specs.List.{rowsText, scriptText, settingsText}
@@ -22,16 +25,13 @@ either : (n : ℕ) (x : Bool) (a b : List ℕ) → Short n a → Short n b → S
 either n true a b p q = p
 either n false a b p q = q
 
-decimal-short : (n : ℕ) → Short 5 (decimalOf n)
-unfolding decimalOf
-decimal-short n =
-    either 5 (ltb n 10) _ _ (omega arith)
-    (either 5 (ltb n 100) _ _ (omega arith) (either 5 (ltb n 1000) _ _ (omega arith) (either 5 (ltb n 10000) _ _ (omega arith) (omega arith))))
+decimal-short : (n : ℕ) → n < 65536 → Short 5 (decimal n)
+decimal-short n h = short 4 n (omega arith)
 
-event-short : (e : ℕ) → Short 12 (eventText e)
+event-short : (e : ℕ) → e < 65536 → Short 12 (eventText e)
 unfolding eventText
-event-short e =
-    let d = decimal-short e in
+event-short e h =
+    let d = decimal-short e h in
     either 12 (eqb e 0) [] _ (omega arith) (omega arith)
 
 flags-short : (f : ℕ) → Short 11 (flagsText f)
@@ -40,23 +40,23 @@ flags-short f =
     either 11 (among (1 ∷ []) f) _ _ (omega arith)
     (either 11 (among (2 ∷ []) f) _ _ (omega arith) (either 11 (among (3 ∷ []) f) _ _ (omega arith) (omega arith)))
 
-cycles-short : (n e f : ℕ) → Short 36 (cyclesText n e f)
+cycles-short : (n e f : ℕ) → n < 65536 → e < 65536 → Short 36 (cyclesText n e f)
 unfolding cyclesText
-cycles-short n e f = simp length-append (omega (arith, decimal-short n, event-short e, flags-short f))
+cycles-short n e f h k = simp length-append (omega (arith, decimal-short n h, event-short e k, flags-short f))
 
-pad-short : (p l h : ℕ) → Short 36 (padText p l h)
+pad-short : (p l h : ℕ) → p < 65536 → Short 36 (padText p l h)
 unfolding padText
-pad-short p l h = simp length-append (omega (arith, decimal-short p))
+pad-short p l h k = simp length-append (omega (arith, decimal-short p k))
 
-plug-short : (p on : ℕ) → Short 36 (plugText p on)
+plug-short : (p on : ℕ) → p < 65536 → Short 36 (plugText p on)
 unfolding plugText
-plug-short p on =
+plug-short p on h =
     let w : Short 5 (pick (eqb on 1) onWord offWord) = either 5 (eqb on 1) onWord offWord (omega arith) (omega arith) in
-    simp length-append (omega (arith, decimal-short p, w))
+    simp length-append (omega (arith, decimal-short p h, w))
 
-back-short : (n : ℕ) → Short 36 (backText n)
+back-short : (n : ℕ) → n < 65536 → Short 36 (backText n)
 unfolding backText
-back-short n = simp length-append (omega (arith, decimal-short n))
+back-short n h = simp length-append (omega (arith, decimal-short n h))
 
 -- a table of short lines
 abbrev Shorts : List (Entry (List ℕ)) → Type 0
@@ -67,34 +67,37 @@ short-found : (t : List (Entry (List ℕ))) (k : ℕ) → Shorts t → Short 36 
 short-found [] k h = omega arith
 short-found (e ∷ t) k h = either 36 (among (e .keys) k) (e .gives) (find t k []) (h .0) (short-found t k (h .1))
 
-row-short : (b : List ℕ) → Short 36 (rowText b)
+row-short : (b : List ℕ) → Bytes b → Short 36 (rowText b)
 unfolding rowText
-row-short b =
+row-short b h =
+    let h₁ = h 1 in
+    let h₂ = h 2 in
+    let h₃ = h 3 in
     short-found (texts b) (byteAt b 0) (
-      cycles-short (twoAt b 1) (byteAt b 3) (byteAt b 4),
+      cycles-short (twoAt b 1) (byteAt b 3) (byteAt b 4) (omega arith) (omega arith),
       (
         omega arith,
         (
           omega arith,
           (
-            pad-short (byteAt b 1) (byteAt b 2) (byteAt b 3),
-            (plug-short (byteAt b 1) (byteAt b 2), (omega arith, (back-short (twoAt b 1), tt))),
+            pad-short (byteAt b 1) (byteAt b 2) (byteAt b 3) (omega arith),
+            (plug-short (byteAt b 1) (byteAt b 2) (omega arith), (omega arith, (back-short (twoAt b 1) (omega arith), tt))),
           ),
         ),
       ),
     )
 
-rows-short : (s : List ℕ) (n i : ℕ) → Short (n * 36) (rowsText s n i)
-unfolding rowsText
-rows-short s zero i = omega arith
-rows-short s (suc n) i = simp length-append (omega (arith, row-short (rowBytes s i), rows-short s n (i + 1)))
+rows-short : (s : List ℕ) → Bytes s → (n i : ℕ) → Short (n * 36) (rowsText s n i)
+unfolding each
+rows-short s h zero i = omega arith
+rows-short s h (suc n) i = simp length-append (omega (arith, row-short (rowBytes s i) (part-bytes s (i * 8) 8 h), rows-short s h n (i + 1)))
 
-pub script-short : (s : List ℕ) → Short (length s / 8 * 36) (scriptText s)
+pub script-short : (s : List ℕ) → Bytes s → Short (length s / 8 * 36) (scriptText s)
 unfolding scriptText
-script-short s = rows-short s (length s / 8) 0
+script-short s h = rows-short s h (length s / 8) 0
 
 bytes-length : (l : List ℕ) → length (bytesText l) ≡ 4 * length l
-unfolding bytesText
+unfolding hexes
 bytes-length [] = refl
 bytes-length (x ∷ l) = simp length-append (omega (arith, bytes-length l))
 
@@ -110,7 +113,7 @@ module _ (w : List ℕ) (lw : length w ≤ 4) where
   line-short (x ∷ l) h = simp length-append (omega (arith, bytes-length (x ∷ l), lw, h))
 
   lines-from-short : (l : List ℕ) (n i : ℕ) → Short (n * 69) (linesFrom w l n i)
-  unfolding linesFrom
+  unfolding each
   lines-from-short l zero i = omega arith
   lines-from-short l (suc n) i =
       simp length-append (omega (arith, line-short (partOf l (i * 16) 16) (taken-short 16 (drop (i * 16) l)), lines-from-short l n (i + 1)))
@@ -119,6 +122,6 @@ module _ (w : List ℕ) (lw : length w ≤ 4) where
   unfolding linesText
   lines-short l = lines-from-short l (length l / 16 + 1) 0
 
-pub settings-short : (n : ℕ) → Short 16 (settingsText n)
+pub settings-short : (n : ℕ) → n < 65536 → Short 16 (settingsText n)
 unfolding settingsText
-settings-short n = simp length-append (omega (arith, decimal-short n))
+settings-short n h = simp length-append (omega (arith, decimal-short n h))

@@ -12,7 +12,7 @@ use Rattle.reader.specs.Draft.{draft, mayOf, keywordOf}
 use Rattle.reader.specs.Line.{fitsOf, numberOf, namedOf, takenOf, closingOf, lineOf}
 use Rattle.reader.specs.Reader.{reader, shutOf, spacedOf, plainOf, stepOf, readOf}
 use Rattle.bothways.proofs.Quietly.{calm, quietly}
-use Rattle.lister.specs.Digits.{glyphOf}
+use Rattle.append.specs.Number.{glyphOf}
 use Rattle.lister.specs.Row.{readText, writeText, answerText}
 use Rattle.bothways.proofs.Digits.{byte-2, byte-3, byte-4, byte-5}
 

@@ -1,5 +1,5 @@
 -- The line of the settings: it comes back, and adds their two bytes.
-use Prim.Native.Nat.{ℕ, _+_, _/_, _%_, _≤_, _<_}
+use Prim.Native.Nat.{ℕ, _/_, _%_, _≤_, _<_}
 use mathlib.Core.List.{List, [], _∷_, _++_}
 use mathlib.Core.Path.{_≡_, refl, ap, _∙_}
 use native.Mathlib.Omega.{arith}
@@ -11,7 +11,7 @@ use Rattle.reader.specs.Word.{word, letterOf, worthOf}
 use Rattle.reader.specs.Draft.{draft, mayOf, keywordOf}
 use Rattle.reader.specs.Line.{fitsOf, numberOf, namedOf, takenOf, closingOf, lineOf}
 use Rattle.reader.specs.Reader.{reader, startOf, shutOf, spacedOf, plainOf, stepOf, readOf}
-use Rattle.lister.specs.Digits.{decimalOf}
+use Rattle.append.specs.Number.{decimal}
 use Rattle.lister.specs.List.{bitcyclesWord, settingsText}
 use Rattle.assembler.specs.Desk.{State, frontOf, romOf, scriptOf, runs}
 use Rattle.bothways.proofs.Quietly.{quietly, made, added, quietly-runs}
@@ -36,7 +36,7 @@ module _ (n : ℕ) (small : n < 65536) where
   -- the settings come back
   pub settings-back : quietly startOf (settingsText n) ≡ before 1 8 (n % 256) (n / 256) 0 0 2
   unfolding settingsText
-  settings-back = settings-word (decimalOf n ++ (10 ∷ [])) ∙ decimal-back 1 10 8 0 0 0 0 n (10 ∷ []) small ∙ settings-end
+  settings-back = settings-word (decimal n ++ (10 ∷ [])) ∙ decimal-back 1 10 8 0 0 0 0 n (10 ∷ []) small ∙ settings-end
 
   module _ (file : List ℕ) (f o s : Sheet) where
     abbrev done : Reader

@@ -1,10 +1,10 @@
 -- Assemble of list is the file.
-use Prim.Native.Nat.{ℕ, _+_, _≤_}
+use Prim.Native.Nat.{ℕ, _≤_}
 use mathlib.Core.List.{List, [], _++_}
 use mathlib.Core.Path.{_≡_, sym, ap, subst, _∙_}
 use native.Mathlib.Omega.{arith}
 use lib.ListN.{length, replicate, length-append}
-use Rattle.append.specs.Sheet.{Sheet, sheet, puts}
+use Rattle.append.specs.Sheet.{Sheet, sheet, puts, shownOf}
 use Rattle.append.proofs.Laws.{puts-append, puts-room}
 use Rattle.benchfile.specs.Bytes.{twoAt, Bytes}
 use Rattle.benchfile.specs.File.{fileCheck}
@@ -12,12 +12,12 @@ use Rattle.reader.specs.Reader.{startOf, unnamedOf}
 use Rattle.lister.specs.Body.{fillWord, romWord}
 use Rattle.lister.specs.List.{listText}
 use Rattle.assembler.specs.Desk.{State, stepped, runs, opened, gathered}
-use Rattle.assembler.specs.Assemble.{shownOf, said, assembled}
+use Rattle.assembler.specs.Assemble.{said, left, assembled}
 use Rattle.bothways.proofs.Lines.{Scripted}
 use Rattle.bothways.proofs.Says.{says, nameless}
 use Rattle.bothways.proofs.Room.{settings-short, lines-short, script-short}
 use Rattle.bothways.proofs.Bound.{length-build, there, finished-file}
-use Rattle.bothways.proofs.Finish.{left, bodies}
+use Rattle.bothways.proofs.Finish.{bodies}
 use Rattle.bothways.proofs.Sections as of
 
 module _ (f : List ℕ) (small : Bytes f) (sound : fileCheck f ≡ 0) where
@@ -38,10 +38,13 @@ module _ (f : List ℕ) (small : Bytes f) (sound : fileCheck f ≡ 0) where
   unfolding listText
   text-short =
       let l = length-build settings ram image script in
-      let a = settings-short (twoAt settings 0) in
+      let h = of.bytes f small sound 0 in
+      let h₀ = h 0 in
+      let h₁ = h 1 in
+      let a = settings-short (twoAt settings 0) (omega arith) in
       let b = lines-short fillWord (omega arith) ram in
       let c = lines-short romWord (omega arith) image in
-      let d = script-short script in
+      let d = script-short script (of.bytes f small sound 3) in
       simp length-append (omega (arith, l, of.short f small sound, of.two f small sound, a, b, c, d))
 
   -- and has no file name in it

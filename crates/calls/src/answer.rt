@@ -12,11 +12,13 @@ use crate::listed::Listed;
 use crate::listed::bench_of;
 use crate::listed::image_of;
 use crate::listed::listed_of;
-use crate::text::hex;
 use crate::text::number;
-use crate::text::sign;
 use crate::text::spaced;
-use crate::text::word;
+use append::number::hex_byte;
+use append::number::hex_word;
+use append::number::hexes;
+use append::push_byte;
+use append::put;
 use bench::Bench;
 use bench::page::page_look;
 use bus::access::Access;
@@ -29,7 +31,7 @@ pub const LINE: usize = 16384;
 
 // Call, number, held, edge, byte and cost, each in two digits.
 fn numbers(line: &mut [u8], kind: u8, o: Outcome) -> usize {
-    let a = hex(line, 0, kind);
+    let a = hex_byte(line, 0, kind);
     let b = spaced(line, a, o.number);
     let c = spaced(line, b, o.held as u8);
     let d = spaced(line, c, o.edge as u8);
@@ -56,10 +58,9 @@ fn bank(line: &mut [u8], at: usize, name: u8, before: &[u8; BANK], after: &[u8; 
 // A slot that was written: its number, and where it differs from the image before.
 fn part(line: &mut [u8], at: usize, n: u8, image: [u8; 256], before: &[u8], after: &[u8]) -> usize {
     if differ(before, after) {
-        let a = sign(line, at, b' ');
-        let b = sign(line, a, b'e');
-        let c = hex(line, b, n);
-        return changes(line, c, b'o', false, &image, after);
+        let a = put(line, at, b" e");
+        let b = hex_byte(line, a, n);
+        return changes(line, b, b'o', false, &image, after);
     }
     at
 }
@@ -94,12 +95,12 @@ fn way(write: bool) -> u8 {
 }
 
 fn access(line: &mut [u8], at: usize, x: Access) -> usize {
-    let a = sign(line, at, b' ');
-    let b = sign(line, a, way(x.write));
-    let c = hex(line, b, x.bank);
-    let d = word(line, c, x.addr);
-    let e = sign(line, d, b'=');
-    hex(line, e, x.byte)
+    let a = push_byte(line, at, b' ');
+    let b = push_byte(line, a, way(x.write));
+    let c = hex_byte(line, b, x.bank);
+    let d = hex_word(line, c, x.addr);
+    let e = push_byte(line, d, b'=');
+    hex_byte(line, e, x.byte)
 }
 
 fn access_at(line: &mut [u8], at: usize, log: Log, i: usize) -> usize {
@@ -116,18 +117,6 @@ fn accesses(line: &mut [u8], at: usize, log: Log) -> usize {
     let mut i: usize = 0;
     while i < 11 {
         let next = access_at(line, end, log, i);
-        end = next;
-        i += 1;
-    }
-    end
-}
-
-// The bytes of a page.
-fn page(line: &mut [u8], at: usize, bytes: &[u8]) -> usize {
-    let mut end = at;
-    let mut i = 0;
-    while i < bytes.len() {
-        let next = hex(line, end, bytes[i]);
         end = next;
         i += 1;
     }
@@ -155,9 +144,8 @@ fn looked<'a>(line: &mut [u8], at: usize, l: Listed, low: &'a [u8], high: &'a [u
     if bytes.len() == 0 {
         return at;
     }
-    let a = sign(line, at, b' ');
-    let b = sign(line, a, b'p');
-    page(line, b, bytes)
+    let a = put(line, at, b" p");
+    hexes(line, a, b"", bytes)
 }
 
 // The whole line; gives its length.
@@ -184,5 +172,5 @@ pub fn answer(head: [u8; 304], newest: [u8; 256], rom: &[u8], line: &mut [u8; LI
     let e5 = slots(line, e4, image, &entries0, &entries);
     let e6 = accesses(line, e5, log);
     let e7 = look(line, e6, l, &low, &high);
-    sign(line, e7, b'\n')
+    push_byte(line, e7, b'\n')
 }

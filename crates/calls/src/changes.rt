@@ -1,23 +1,23 @@
 // What is new in a row of bytes: places and bytes.
-use crate::text::hex;
-use crate::text::sign;
-use crate::text::word;
+use append::number::hex_byte;
+use append::number::hex_word;
+use append::push_byte;
 
 // ` i19=14`: a name, the place and the new byte; a wide place has six digits, another two.
 fn change(line: &mut [u8], at: usize, name: u8, wide: bool, place: usize, byte: u8) -> usize {
-    let a = sign(line, at, b' ');
-    let b = sign(line, a, name);
+    let a = push_byte(line, at, b' ');
+    let b = push_byte(line, a, name);
     let c = digits(line, b, wide, place);
-    let d = sign(line, c, b'=');
-    hex(line, d, byte)
+    let d = push_byte(line, c, b'=');
+    hex_byte(line, d, byte)
 }
 
 fn digits(line: &mut [u8], at: usize, wide: bool, place: usize) -> usize {
     if wide {
-        let a = hex(line, at, (place / 65536 % 256) as u8);
-        return word(line, a, (place % 65536) as u16);
+        let a = hex_byte(line, at, (place / 65536 % 256) as u8);
+        return hex_word(line, a, (place % 65536) as u16);
     }
-    hex(line, at, (place % 256) as u8)
+    hex_byte(line, at, (place % 256) as u8)
 }
 
 // A place where two rows differ.

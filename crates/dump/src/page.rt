@@ -2,11 +2,12 @@
 ghost use mathlib.Core.Path.{_≡_};
 ghost use denote.Ref.{now};
 ghost use Rattle.append.specs.Sheet.{sheet, puts};
-ghost use Rattle.dump.specs.Page.{shownOf, hexText, headText, hexesText, signsText, lineText, pageText};
+ghost use Rattle.dump.specs.Page.{shownOf, headText, signsText, lineText, pageText};
+use append::number::glyph;
+use append::number::hexes;
 use append::push_byte;
 use append::put;
 use benchfile::part::part;
-use lister::digits::glyph;
 
 // A printable character as it is, any other byte as a dot.
 fn shown(x: u8) -> u8
@@ -16,13 +17,6 @@ fn shown(x: u8) -> u8
         32..=126 => x,
         _ => 46,
     }
-}
-
-// ` 5A`
-fn hex_text(x: u8) -> [u8; 3]
-    ensures { λ r. ⌜ r ≡ hexText x ⌝ }
-{
-    [b' ', glyph(x / 16), glyph(x)]
 }
 
 // `7E:1230 `, by the page and the line in it.
@@ -41,19 +35,6 @@ fn head_text(page: u16, line: u8) -> [u8; 8]
         b'0',
         b' ',
     ]
-}
-
-fn hexes(out: &mut [u8], at: usize, s: &[u8]) -> usize
-    ensures { λ r. ⌜ sheet (now (out .exit)) r ≡ puts (sheet (now (out .entry)) at) (hexesText (now (s .entry))) ⌝ }
-{
-    let mut to = at;
-    let mut i = 0;
-    while i < s.len() {
-        let t = hex_text(s[i]);
-        to = put(out, to, &t);
-        i += 1;
-    }
-    to
 }
 
 // Bytes as characters.
@@ -76,9 +57,9 @@ fn line(out: &mut [u8], at: usize, page: u16, k: u8, s: &[u8]) -> usize
 {
     let head = head_text(page, k);
     let a = put(out, at, &head);
-    let b = hexes(out, a, part(s, 0, 8));
+    let b = hexes(out, a, b" ", part(s, 0, 8));
     let c = put(out, b, b" ");
-    let d = hexes(out, c, part(s, 8, 8));
+    let d = hexes(out, c, b" ", part(s, 8, 8));
     let e = put(out, d, b"  |");
     let f = signs(out, e, s);
     put(out, f, b"|\n")

@@ -1,3 +1,2 @@
-pub mod Decimal
-pub mod Append
+pub mod Most
 pub mod Repeat

@@ -7,7 +7,7 @@ use native.Mathlib.Numerals.{add-one}
 use native.Mathlib.Omega.{arith}
 use lib.Dec.{eqb}
 use lib.ListN.{length, getD, drop, set, length-append, drop-of-length-le, List·getD-append}
-use lib.Seq.{drop-cons, set-at, getD-at, append-snoc}
+use lib.Seq.{drop-cons, set-at, getD-at}
 use borrow.Author.Tests.{eq-eqb, ne-eqb, eqb-true, eqb-false}
 use Rattle.lines.specs.Fill.{repeated, filled}
 

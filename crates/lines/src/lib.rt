@@ -1,4 +1,3 @@
 // The text of the trace: document 01's lines, put together in a lent buffer; and the RAM fill.
 pub mod fill;
 pub mod line;
-pub mod text;

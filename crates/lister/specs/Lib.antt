@@ -1,4 +1,3 @@
-pub mod Digits
 pub mod Row
 pub mod Body
 pub mod List

@@ -1,11 +1,12 @@
 -- A bench file as text: settings, fill, ROM, rows.
-use Prim.Native.Nat.{ℕ, zero, suc, _+_, _/_}
+use Prim.Native.Nat.{ℕ, _/_}
 use mathlib.Core.List.{List, [], _∷_, _++_}
 use lib.ListN.{length}
 use Rattle.benchfile.specs.Bytes.{twoAt}
 use Rattle.benchfile.specs.Row.{rowBytes}
 use Rattle.benchfile.specs.File.{sectionOf}
-use Rattle.lister.specs.Digits.{decimalOf}
+use Rattle.append.specs.Number.{decimal}
+use Rattle.append.specs.Texts.{each}
 use Rattle.lister.specs.Body.{linesText, fillWord, romWord}
 use Rattle.lister.specs.Row.{rowText}
 
@@ -14,12 +15,11 @@ abbrev pub bitcyclesWord : List ℕ
 bitcyclesWord = 98 ∷ 105 ∷ 116 ∷ 99 ∷ 121 ∷ 99 ∷ 108 ∷ 101 ∷ 115 ∷ 32 ∷ []
 
 unfoldable pub settingsText : ℕ → List ℕ
-settingsText n = bitcyclesWord ++ (decimalOf n ++ (10 ∷ []))
+settingsText n = bitcyclesWord ++ (decimal n ++ (10 ∷ []))
 
 -- n rows from row i on
-unfoldable pub rowsText : List ℕ → ℕ → ℕ → List ℕ
-rowsText s zero i = []
-rowsText s (suc n) i = rowText (rowBytes s i) ++ rowsText s n (i + 1)
+abbrev pub rowsText : List ℕ → ℕ → ℕ → List ℕ
+rowsText s = each (λ (i : ℕ). rowText (rowBytes s i))
 
 unfoldable pub scriptText : List ℕ → List ℕ
 scriptText s = rowsText s (length s / 8) 0

@@ -1,27 +1,30 @@
 -- A row of a script as a line of text, in characters' ASCII codes.
-use Prim.Native.Nat.{ℕ, _/_}
+use Prim.Native.Nat.{ℕ}
 use mathlib.Core.List.{List, [], _∷_, _++_}
 use lib.Dec.{eqb}
 use Rattle.common.specs.Pick.{pick}
 use Rattle.common.specs.Table.{Entry, find, at}
 use Rattle.benchfile.specs.Bytes.{byteAt, twoAt}
-use Rattle.lister.specs.Digits.{glyphOf, decimalOf}
+use Rattle.append.specs.Number.{hexByte, decimal}
 
 -- `read $00:4302`
 abbrev pub readText : ℕ → ℕ → ℕ → List ℕ
-readText bank low high = 114 ∷ 101 ∷ 97 ∷ 100 ∷ 32 ∷ 36 ∷ glyphOf (bank / 16) ∷ glyphOf bank ∷ 58 ∷ glyphOf (high / 16) ∷ glyphOf high ∷ glyphOf (low / 16) ∷ glyphOf low ∷ 10 ∷ []
+readText bank low high =
+    114 ∷ 101 ∷ 97 ∷ 100 ∷ 32 ∷ 36 ∷ hexByte bank ++ 58 ∷ hexByte high ++ hexByte low ++ 10 ∷ []
 
 -- `write $00:4302 = $10`
 abbrev pub writeText : ℕ → ℕ → ℕ → ℕ → List ℕ
-writeText bank low high byte = 119 ∷ 114 ∷ 105 ∷ 116 ∷ 101 ∷ 32 ∷ 36 ∷ glyphOf (bank / 16) ∷ glyphOf bank ∷ 58 ∷ glyphOf (high / 16) ∷ glyphOf high ∷ glyphOf (low / 16) ∷ glyphOf low ∷ 32 ∷ 61 ∷ 32 ∷ 36 ∷ glyphOf (byte / 16) ∷ glyphOf byte ∷ 10 ∷ []
+writeText bank low high byte =
+    119 ∷ 114 ∷ 105 ∷ 116 ∷ 101 ∷ 32 ∷ 36 ∷ hexByte bank ++ 58 ∷ hexByte high ++ hexByte low ++ 32 ∷ 61 ∷ 32 ∷ 36 ∷ hexByte byte ++ 10 ∷ []
 
 -- `answer $2134 = $5A`
 abbrev pub answerText : ℕ → ℕ → ℕ → List ℕ
-answerText low high byte = 97 ∷ 110 ∷ 115 ∷ 119 ∷ 101 ∷ 114 ∷ 32 ∷ 36 ∷ glyphOf (high / 16) ∷ glyphOf high ∷ glyphOf (low / 16) ∷ glyphOf low ∷ 32 ∷ 61 ∷ 32 ∷ 36 ∷ glyphOf (byte / 16) ∷ glyphOf byte ∷ 10 ∷ []
+answerText low high byte =
+    97 ∷ 110 ∷ 115 ∷ 119 ∷ 101 ∷ 114 ∷ 32 ∷ 36 ∷ hexByte high ++ hexByte low ++ 32 ∷ 61 ∷ 32 ∷ 36 ∷ hexByte byte ++ 10 ∷ []
 
 -- ` $8000`, the end of a pad's line
 abbrev pub wordText : ℕ → ℕ → List ℕ
-wordText low high = 32 ∷ 36 ∷ glyphOf (high / 16) ∷ glyphOf high ∷ glyphOf (low / 16) ∷ glyphOf low ∷ 10 ∷ []
+wordText low high = 32 ∷ 36 ∷ hexByte high ++ hexByte low ++ 10 ∷ []
 
 -- `cycles `
 abbrev pub cyclesWord : List ℕ
@@ -61,22 +64,22 @@ backWord = 98 ∷ 97 ∷ 99 ∷ 107 ∷ 32 ∷ []
 
 -- the options of a cycles row: an event that is not 0, line due, timer
 unfoldable pub eventText : ℕ → List ℕ
-eventText e = pick (eqb e 0) [] (eventWord ++ decimalOf e)
+eventText e = pick (eqb e 0) [] (eventWord ++ decimal e)
 
 unfoldable pub flagsText : ℕ → List ℕ
 flagsText f = find (at 1 lineWord ∷ at 2 timerWord ∷ at 3 (lineWord ++ timerWord) ∷ []) f []
 
 unfoldable pub cyclesText : ℕ → ℕ → ℕ → List ℕ
-cyclesText n e f = cyclesWord ++ (decimalOf n ++ (eventText e ++ (flagsText f ++ (10 ∷ []))))
+cyclesText n e f = cyclesWord ++ (decimal n ++ (eventText e ++ (flagsText f ++ (10 ∷ []))))
 
 unfoldable pub padText : ℕ → ℕ → ℕ → List ℕ
-padText port l h = padWord ++ (decimalOf port ++ wordText l h)
+padText port l h = padWord ++ (decimal port ++ wordText l h)
 
 unfoldable pub plugText : ℕ → ℕ → List ℕ
-plugText port on = plugWord ++ (decimalOf port ++ pick (eqb on 1) onWord offWord)
+plugText port on = plugWord ++ (decimal port ++ pick (eqb on 1) onWord offWord)
 
 unfoldable pub backText : ℕ → List ℕ
-backText n = backWord ++ (decimalOf n ++ (10 ∷ []))
+backText n = backWord ++ (decimal n ++ (10 ∷ []))
 
 -- the line of a row, by its kind
 abbrev pub texts : List ℕ → List (Entry (List ℕ))

@@ -2,31 +2,11 @@
 ghost use mathlib.Core.Path.{_≡_};
 ghost use denote.Ref.{now};
 ghost use Rattle.append.specs.Sheet.{sheet, puts};
-ghost use Rattle.lister.specs.Body.{byteText, bytesText, lineText, linesText};
-use crate::digits::glyph;
+ghost use Rattle.lister.specs.Body.{lineText, linesText};
+use append::number::hexes;
 use append::push_byte;
 use append::put;
 use benchfile::part::part;
-
-// ` $5A`
-fn byte_text(x: u8) -> [u8; 4]
-    ensures { λ r. ⌜ r ≡ byteText x ⌝ }
-{
-    [b' ', b'$', glyph(x / 16), glyph(x)]
-}
-
-fn bytes(out: &mut [u8], at: usize, s: &[u8]) -> usize
-    ensures { λ r. ⌜ sheet (now (out .exit)) r ≡ puts (sheet (now (out .entry)) at) (bytesText (now (s .entry))) ⌝ }
-{
-    let mut to = at;
-    let mut i = 0;
-    while i < s.len() {
-        let t = byte_text(s[i]);
-        to = put(out, to, &t);
-        i += 1;
-    }
-    to
-}
 
 // `fill $5A $00`; no bytes, no line.
 fn line(out: &mut [u8], at: usize, word: &[u8], s: &[u8]) -> usize
@@ -36,7 +16,7 @@ fn line(out: &mut [u8], at: usize, word: &[u8], s: &[u8]) -> usize
         return at;
     }
     let a = put(out, at, word);
-    let b = bytes(out, a, s);
+    let b = hexes(out, a, b" $", s);
     push_byte(out, b, b'\n')
 }
 

@@ -4,8 +4,8 @@ ghost use denote.Ref.{now};
 ghost use Rattle.append.specs.Sheet.{sheet, puts};
 ghost use Rattle.lister.specs.List.{settingsText, scriptText, listText};
 use crate::body::lines;
-use crate::digits::decimal;
 use crate::row::write_row;
+use append::number::decimal;
 use append::push_byte;
 use append::put;
 use benchfile::part::part;
@@ -17,7 +17,7 @@ fn settings(out: &mut [u8], at: usize, n: u16) -> usize
     ensures { λ r. ⌜ sheet (now (out .exit)) r ≡ puts (sheet (now (out .entry)) at) (settingsText n) ⌝ }
 {
     let a = put(out, at, b"bitcycles ");
-    let b = decimal(out, a, n);
+    let b = decimal(out, a, n as u64);
     push_byte(out, b, b'\n')
 }
 

@@ -3,8 +3,8 @@ ghost use mathlib.Core.Path.{_≡_};
 ghost use denote.Ref.{now};
 ghost use Rattle.append.specs.Sheet.{sheet, puts};
 ghost use Rattle.lister.specs.Row.{readText, writeText, answerText, wordText, eventText, flagsText, cyclesText, padText, plugText, backText, rowText};
-use crate::digits::decimal;
-use crate::digits::glyph;
+use append::number::decimal;
+use append::number::glyph;
 use append::push_byte;
 use append::put;
 use benchfile::word::byte;
@@ -111,7 +111,7 @@ fn event(out: &mut [u8], at: usize, number: u8) -> usize
         return at;
     }
     let to = put(out, at, b" event ");
-    decimal(out, to, number as u16)
+    decimal(out, to, number as u64)
 }
 
 // 1 line due, 2 timer.
@@ -134,7 +134,7 @@ fn cycles(out: &mut [u8], at: usize, n: u16, number: u8, set: u8) -> usize
     ensures { λ r. ⌜ sheet (now (out .exit)) r ≡ puts (sheet (now (out .entry)) at) (cyclesText n number set) ⌝ }
 {
     let a = put(out, at, b"cycles ");
-    let b = decimal(out, a, n);
+    let b = decimal(out, a, n as u64);
     let c = event(out, b, number);
     let d = flags(out, c, set);
     push_byte(out, d, b'\n')
@@ -144,7 +144,7 @@ fn pad(out: &mut [u8], at: usize, port: u8, low: u8, high: u8) -> usize
     ensures { λ r. ⌜ sheet (now (out .exit)) r ≡ puts (sheet (now (out .entry)) at) (padText port low high) ⌝ }
 {
     let a = put(out, at, b"pad ");
-    let b = decimal(out, a, port as u16);
+    let b = decimal(out, a, port as u64);
     let t = word_text(low, high);
     put(out, b, &t)
 }
@@ -153,7 +153,7 @@ fn plug(out: &mut [u8], at: usize, port: u8, on: u8) -> usize
     ensures { λ r. ⌜ sheet (now (out .exit)) r ≡ puts (sheet (now (out .entry)) at) (plugText port on) ⌝ }
 {
     let a = put(out, at, b"plug ");
-    let b = decimal(out, a, port as u16);
+    let b = decimal(out, a, port as u64);
     if on == 1 {
         return put(out, b, b" on\n");
     }
@@ -164,7 +164,7 @@ fn back(out: &mut [u8], at: usize, n: u16) -> usize
     ensures { λ r. ⌜ sheet (now (out .exit)) r ≡ puts (sheet (now (out .entry)) at) (backText n) ⌝ }
 {
     let a = put(out, at, b"back ");
-    let b = decimal(out, a, n);
+    let b = decimal(out, a, n as u64);
     push_byte(out, b, b'\n')
 }
 

@@ -16,15 +16,15 @@ use Rattle.benchfile.specs.Row.{rowOf, rowBytes}
 use Rattle.benchfile.specs.declared.row.Row.{Row}
 use Rattle.script.specs.Run.{Running}
 use Rattle.script.specs.Row.{rowRun}
-use Rattle.lines.specs.Text.{Text, text, appended}
+use Rattle.append.specs.Sheet.{Sheet, sheet, puts}
 use Rattle.lines.specs.Line.{lineText, refusedText}
 use Rattle.lines.specs.Fill.{filled}
 use Rattle.printout.specs.Row.{Shown, rowShown}
 use Rattle.printout.specs.Rows.{Standing, after, stepped, steps}
 use Rattle.printout.specs.Start.{Starting, startNumber, madeFor, refusalOf, startRun}
 
-pub row-joined : (rom row : List ℕ) (number : ℕ) (d : Desk) (t : Text) {says : Row} {kind : ℕ} {r : Running} {u : Text} → says ≡ rowOf row → kind ≡ byteAt row 0
-    → r ≡ rowRun rom says d → u ≡ appended t (lineText number kind (r .number) (r .a) (r .b)) → _≡_ {A = Shown} (record { ran = r; text = u }) (rowShown rom row number d t)
+pub row-joined : (rom row : List ℕ) (number : ℕ) (d : Desk) (t : Sheet) {says : Row} {kind : ℕ} {r : Running} {u : Sheet} → says ≡ rowOf row → kind ≡ byteAt row 0
+    → r ≡ rowRun rom says d → u ≡ puts t (lineText number kind (r .number) (r .a) (r .b)) → _≡_ {A = Shown} (record { ran = r; out = u }) (rowShown rom row number d t)
 unfolding rowShown
 row-joined rom row number d t p q e f = cc
 
@@ -38,12 +38,12 @@ module _ (rom script : List ℕ) (s : Standing) where
     unfolding stepped
     step-refused b = cc
 
-    module _ (b : eqb (s .number) 0 ≡ true) {t : Bool} (c : t ≡ leb (s .text .used + 105) (length (s .text .bytes))) where
+    module _ (b : eqb (s .number) 0 ≡ true) {t : Bool} (c : t ≡ leb (s .out .at + 105) (length (s .out .text))) where
       pub step-full : t ≡ false → s ≡ stepped rom script s
       unfolding stepped
       step-full e = cc
 
-      pub step-goes : t ≡ true → {row : List ℕ} {o : Shown} → row ≡ rowBytes script (s .next) → o ≡ rowShown rom row (s .next + 1) (s .desk) (s .text)
+      pub step-goes : t ≡ true → {row : List ℕ} {o : Shown} → row ≡ rowBytes script (s .next) → o ≡ rowShown rom row (s .next + 1) (s .desk) (s .out)
           → after s o ≡ stepped rom script s
       unfolding stepped
       step-goes e p q = cc
@@ -53,7 +53,7 @@ pub record SameLengths (s t : Standing) : Type 0 where
   pub low : length (t .desk .ram .low) ≡ length (s .desk .ram .low)
   pub high : length (t .desk .ram .high) ≡ length (s .desk .ram .high)
   pub entries : length (t .desk .entries) ≡ length (s .desk .entries)
-  pub out : length (t .text .bytes) ≡ length (s .text .bytes)
+  pub out : length (t .out .text) ≡ length (s .out .text)
 
 -- i of n steps are made
 pub record Going (rom script : List ℕ) (n : ℕ) (s₀ s : Standing) (i : ℕ) : Type 0 where
@@ -93,12 +93,12 @@ module _ (f low high out : List ℕ) {settings : List ℕ} {bits broken n : ℕ}
   unfolding refusalOf
   number-is = let e = made-is in cc
 
-  pub start-refused : {u : Text} → eqb n 0 ≡ false → u ≡ appended (text out 0) (lineText 0 0 n 0 0)
-      → _≡_ {A = Starting} (record { number = n; bench = made .bench; low = low; high = high; text = u }) (startRun f low high out)
+  pub start-refused : {u : Sheet} → eqb n 0 ≡ false → u ≡ puts (sheet out 0) (lineText 0 0 n 0 0)
+      → _≡_ {A = Starting} (record { number = n; bench = made .bench; low = low; high = high; out = u }) (startRun f low high out)
   unfolding startRun refusedText
   start-refused z e = let a = made-is in let b = number-is in cc
 
   pub start-goes : {fill low′ high′ : List ℕ} → eqb n 0 ≡ true → fill ≡ sectionOf f 1 → low′ ≡ filled low fill → high′ ≡ filled high fill
-      → _≡_ {A = Starting} (record { number = 0; bench = made .bench; low = low′; high = high′; text = text out 0 }) (startRun f low high out)
+      → _≡_ {A = Starting} (record { number = 0; bench = made .bench; low = low′; high = high′; out = sheet out 0 }) (startRun f low high out)
   unfolding startRun
   start-goes z e g h = let a = made-is in let b = number-is in cc

@@ -6,25 +6,25 @@ use Rattle.benchfile.specs.Bytes.{byteAt}
 use Rattle.benchfile.specs.Row.{rowOf}
 use Rattle.script.specs.Run.{Running, ran}
 use Rattle.script.specs.Row.{rowRun}
-use Rattle.lines.specs.Text.{Text, text, appended}
+use Rattle.append.specs.Sheet.{Sheet, sheet, puts}
 use Rattle.lines.specs.Line.{lineText}
 use Rattle.printout.specs.declared.row.Lined.{Lined}
 
--- what a row has come to, and the text with its line
+-- what a row has come to, and the buffer with its line
 pub record Shown : Type 0 where
   pub ran : Running
-  pub text : Text
+  pub out : Sheet
 
 abbrev pub shown : Lined → List ℕ → List ℕ → List ℕ → List ℕ → Shown
-shown r l h e out = record { ran = ran (r .ran) l h e; text = text out (r .used) }
+shown r l h e out = record { ran = ran (r .ran) l h e; out = sheet out (r .used) }
 
 -- the line of a row that came to r: its number in the script, its kind, and what it came to
 abbrev pub lineOf : ℕ → List ℕ → Running → List ℕ
 lineOf number row r = lineText number (byteAt row 0) (r .number) (r .a) (r .b)
 
-abbrev pub withLine : ℕ → List ℕ → Text → Running → Shown
-withLine number row t r = record { ran = r; text = appended t (lineOf number row r) }
+abbrev pub withLine : ℕ → List ℕ → Sheet → Running → Shown
+withLine number row t r = record { ran = r; out = puts t (lineOf number row r) }
 
 -- the row of 8 bytes, run on a desk
-unfoldable pub rowShown : List ℕ → List ℕ → ℕ → Desk → Text → Shown
+unfoldable pub rowShown : List ℕ → List ℕ → ℕ → Desk → Sheet → Shown
 rowShown rom row number d t = withLine number row t (rowRun rom (rowOf row) d)

@@ -7,34 +7,34 @@ use Rattle.common.specs.Pick.{pick}
 use Rattle.bench.specs.declared.Bench.{Bench}
 use Rattle.bench.specs.Calls.{Desk, desk}
 use Rattle.benchfile.specs.Row.{rowBytes}
-use Rattle.lines.specs.Text.{Text, text}
+use Rattle.append.specs.Sheet.{Sheet, sheet}
 use Rattle.printout.specs.Row.{Shown, rowShown}
 use Rattle.printout.specs.declared.rows.Stand.{Stand}
 
--- where a script stands: what is lent, the row to run next, the refusal of the last one or 0, the text
+-- where a script stands: what is lent, the row to run next, the refusal of the last one or 0, the buffer
 pub record Standing : Type 0 where
   pub desk : Desk
   pub next : ℕ
   pub number : ℕ
-  pub text : Text
+  pub out : Sheet
 
 abbrev pub standing : Stand → List ℕ → List ℕ → List ℕ → List ℕ → Standing
-standing s l h e out = record { desk = desk (s .bench) l h e; next = s .next; number = s .number; text = text out (s .used) }
+standing s l h e out = record { desk = desk (s .bench) l h e; next = s .next; number = s .number; out = sheet out (s .used) }
 
 -- before row `first`, with no text yet
 abbrev pub start : Bench → List ℕ → List ℕ → List ℕ → ℕ → List ℕ → Standing
-start b l h e first out = record { desk = desk b l h e; next = first; number = 0; text = text out 0 }
+start b l h e first out = record { desk = desk b l h e; next = first; number = 0; out = sheet out 0 }
 
 abbrev pub after : Standing → Shown → Standing
-after s o = record { desk = o .ran .desk; next = s .next + 1; number = o .ran .number; text = o .text }
+after s o = record { desk = o .ran .desk; next = s .next + 1; number = o .ran .number; out = o .out }
 
 -- one row more, unless there is none, one was refused, or its line might have no room
 unfoldable pub stepped : List ℕ → List ℕ → Standing → Standing
 stepped rom script s =
     pick (leb (length script / 8) (s .next)) s
     (pick (eqb (s .number) 0)
-    (pick (leb (s .text .used + 105) (length (s .text .bytes)))
-    (after s (rowShown rom (rowBytes script (s .next)) (s .next + 1) (s .desk) (s .text)))
+    (pick (leb (s .out .at + 105) (length (s .out .text)))
+    (after s (rowShown rom (rowBytes script (s .next)) (s .next + 1) (s .desk) (s .out)))
     s)
     s)
 

@@ -9,7 +9,7 @@ use Rattle.bench.specs.declared.operate.Answer.{Answer}
 use Rattle.bench.specs.Calls.{freshCall}
 use Rattle.benchfile.specs.Bytes.{twoAt}
 use Rattle.benchfile.specs.File.{fileCheck, sectionOf}
-use Rattle.lines.specs.Text.{Text, text, appended}
+use Rattle.append.specs.Sheet.{Sheet, sheet, puts}
 use Rattle.lines.specs.Line.{refusedText}
 use Rattle.lines.specs.Fill.{filled}
 use Rattle.printout.specs.declared.start.Started.{Started}
@@ -19,10 +19,10 @@ pub record Starting : Type 0 where
   pub bench : Bench
   pub low : List ℕ
   pub high : List ℕ
-  pub text : Text
+  pub out : Sheet
 
 abbrev pub started : Started → List ℕ → List ℕ → List ℕ → Starting
-started r l h out = record { number = r .number; bench = r .bench; low = l; high = h; text = text out (r .used) }
+started r l h out = record { number = r .number; bench = r .bench; low = l; high = h; out = sheet out (r .used) }
 
 -- a broken file is refused before its bit cycles are looked at
 abbrev pub startNumber : ℕ → ℕ → ℕ
@@ -41,5 +41,5 @@ unfoldable pub startRun : List ℕ → List ℕ → List ℕ → List ℕ → St
 startRun f l h out =
     let b = madeFor f .bench in
     let n = refusalOf f in
-    pick (eqb n 0) (record { number = 0; bench = b; low = filled l (sectionOf f 1); high = filled h (sectionOf f 1); text = text out 0 })
-    (record { number = n; bench = b; low = l; high = h; text = appended (text out 0) (refusedText n) })
+    pick (eqb n 0) (record { number = 0; bench = b; low = filled l (sectionOf f 1); high = filled h (sectionOf f 1); out = sheet out 0 })
+    (record { number = n; bench = b; low = l; high = h; out = puts (sheet out 0) (refusedText n) })

@@ -2,8 +2,9 @@
 use Prim.Native.Nat.{ℕ, zero, suc, _+_, _-_, _/_}
 use mathlib.Core.List.{List, [], _++_}
 use lib.Dec.{eqb}
-use lib.ListN.{length, take, replicate}
+use lib.ListN.{length, replicate}
 use Rattle.common.specs.Pick.{pick}
+use Rattle.append.specs.Sheet.{shownOf}
 use Rattle.bench.specs.Calls.{Desk, desk}
 use Rattle.benchfile.specs.File.{sectionOf}
 use Rattle.benchfile.specs.Row.{rowBytes, rowOf}
@@ -27,7 +28,7 @@ restOf rom script s = pick (eqb (s .number) 0) (linesFrom rom script (length scr
 
 -- the text in the buffer, and what is still to be printed
 unfoldable pub wholeOf : List ℕ → List ℕ → Standing → List ℕ
-wholeOf rom script s = take (s .text .used) (s .text .bytes) ++ restOf rom script s
+wholeOf rom script s = shownOf (s .out) ++ restOf rom script s
 
 -- 65,536 bytes before anything is written to them
 unfoldable pub zeros : List ℕ

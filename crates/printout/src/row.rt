@@ -2,7 +2,7 @@
 ghost use mathlib.Core.Path.{_≡_};
 ghost use denote.Ref.{now};
 ghost use Rattle.bench.specs.Calls.{desk};
-ghost use Rattle.lines.specs.Text.{text};
+ghost use Rattle.append.specs.Sheet.{sheet};
 ghost use Rattle.printout.specs.Row.{shown, rowShown};
 use bench::Bench;
 use benchfile::row::row_of;
@@ -29,7 +29,7 @@ pub fn run_line(
     out: &mut [u8],
     used: usize,
 ) -> Lined
-    ensures { λ r. ⌜ shown r (now (low .exit)) (now (high .exit)) (now (entries .exit)) (now (out .exit)) ≡ rowShown (now (rom .entry)) (now (row .entry)) number (desk b (now (low .entry)) (now (high .entry)) (now (entries .entry))) (text (now (out .entry)) used) ⌝ }
+    ensures { λ r. ⌜ shown r (now (low .exit)) (now (high .exit)) (now (entries .exit)) (now (out .exit)) ≡ rowShown (now (rom .entry)) (now (row .entry)) number (desk b (now (low .entry)) (now (high .entry)) (now (entries .entry))) (sheet (now (out .entry)) used) ⌝ }
 {
     let says = row_of(row);
     let kind = byte(row, 0);

@@ -1,4 +1,7 @@
 // Replays the list of bench files on standard input: each stands behind its length in 4 bytes, and gets a line `file N` before its own.
+use append::number::decimal;
+use append::push_byte;
+use append::put;
 use benchfile::part::part;
 use benchfile::word::four;
 use console::output::write_text;
@@ -6,8 +9,6 @@ use console::output::write_trace;
 use input::read_all;
 use libc::STDERR_FILENO;
 use libc::STDIN_FILENO;
-use lines::text::append;
-use lines::text::append_number;
 
 fn cut_short() -> bool {
     io::write_all(STDERR_FILENO, b"the list is cut short\n");
@@ -37,8 +38,9 @@ fn replay_file(number: u64, size: usize) -> bool {
         return false;
     }
     let mut head = [0u8; 32];
-    let word = append(&mut head, 0, b"file ");
-    let end = append_number(&mut head, word, number, b'\n');
+    let word = put(&mut head, 0, b"file ");
+    let digits = decimal(&mut head, word, number);
+    let end = push_byte(&mut head, digits, b'\n');
     if !(write_text(&head, end) & write_trace(part(&file, 0, size))) {
         os::fail(b"standard output");
         return false;

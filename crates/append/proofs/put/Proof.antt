@@ -1,10 +1,9 @@
 use Rattle.append.proofs.Laws.{puts-next, puts-end}
-use Rattle.append.specs.Sheet.{Sheet, sheet, puts}
+use Rattle.append.specs.Sheet.{sheet, puts}
 use native.Mathlib.Omega.{arith}
 use lib.ListN.{length, drop}
-use mathlib.Core.List.{List}
-use Prim.Native.Nat.{_-_, _≤_}
-use mathlib.Core.Path.{_≡_, refl, sym, ap, _∙_}
+use Prim.Native.Nat.{_-_}
+use mathlib.Core.Path.{_≡_, refl, sym, _∙_}
 use Rattle.append.proofs.put.Statement.{statement}
 use Rattle.append.proofs.put.Tie as tie
 

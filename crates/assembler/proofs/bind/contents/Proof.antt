@@ -1,4 +1,4 @@
-use Rattle.lister.proofs.Join.{then}
+use Rattle.append.proofs.Laws.{then}
 use Rattle.assembler.specs.Bind.{contentsText}
 use borrow.Author.Needs.{needs}
 use Rattle.assembler.proofs.bind.contents.Statement.{statement}

@@ -1,4 +1,4 @@
-use Rattle.lister.proofs.Join.{then}
+use Rattle.append.proofs.Laws.{then}
 use mathlib.Core.Path.{_∙_}
 use Rattle.assembler.specs.Bind.{headOf}
 use borrow.Author.Needs.{needs}

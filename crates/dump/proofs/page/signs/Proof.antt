@@ -4,7 +4,7 @@ use lib.ListN.{length, drop}
 use native.Mathlib.Omega.{arith}
 use Rattle.append.specs.Sheet.{sheet, puts}
 use Rattle.dump.specs.Page.{signsText}
-use Rattle.dump.proofs.Loops.{signs-next, signs-end}
+use Rattle.dump.proofs.Signs.{signs-next, signs-end}
 use Rattle.dump.proofs.page.signs.Statement.{statement}
 use Rattle.dump.proofs.page.signs.Tie as tie
 

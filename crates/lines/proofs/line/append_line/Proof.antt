@@ -1,38 +1,39 @@
-use Rattle.lines.proofs.Append.{line-joined}
-use mathlib.Core.Path.{refl}
+use Rattle.lines.specs.Line.{lineText}
+use Rattle.append.proofs.Laws.{then}
 use borrow.Author.Needs.{needs}
 use Rattle.lines.proofs.line.append_line.Statement.{statement}
 use Rattle.lines.proofs.line.append_line.Tie as tie
 
-slice-aggregate-put-five : tie.Need-slice-aggregate-put-five
-slice-aggregate-put-five c = search needs
+ended-requires : tie.Need-ended-requires
+ended-requires c κs = search needs
 
-put-five-requires : tie.Need-put-five-requires
-put-five-requires c κs = search needs
+ended-requires-2 : tie.Need-ended-requires-2
+ended-requires-2 c κs = search needs
 
-slice-aggregate-part : tie.Need-slice-aggregate-part
-slice-aggregate-part c = search needs
+ended-requires-3 : tie.Need-ended-requires-3
+ended-requires-3 c κs = search needs
 
-part-requires : tie.Need-part-requires
-part-requires c κs = search needs
+ended-requires-4 : tie.Need-ended-requires-4
+ended-requires-4 c κs = search needs
 
-append-requires : tie.Need-append-requires
-append-requires c κs = search needs
+ended-requires-5 : tie.Need-ended-requires-5
+ended-requires-5 c κs = search needs
 
 same-length : tie.Need-same-length
 same-length c = search needs
 
 returns : tie.Need-returns
-returns c = line-joined _ _ _ _ _ _ _ refl (c .before .before .before .before .before .before .before .put-five .ensures) (c .before .before .before .part .ensures) (c .before .before .append .ensures)
+unfolding lineText
+returns c = then _ _ _ (then _ _ _ (then _ _ _ (then _ _ _ (c .before .before .before .before .before .before .before .before .before .before .before .before .before .before .before .before .before .before .ended .ensures) (c .before .before .before .before .before .before .before .before .before .before .before .before .before .before .ended2 .ensures)) (c .before .before .before .before .before .before .before .before .before .before .ended3 .ensures)) (c .before .before .before .before .before .before .ended4 .ensures)) (c .before .before .ended5 .ensures)
 
 pub append-line-spec : {M : Type 1} → statement M
 append-line-spec =
     tie.close
     (tie.spec
-    slice-aggregate-put-five
-    put-five-requires
-    slice-aggregate-part
-    part-requires
-    append-requires
+    ended-requires
+    ended-requires-2
+    ended-requires-3
+    ended-requires-4
+    ended-requires-5
     same-length
     returns)

@@ -1,7 +1,6 @@
-use Rattle.lister.proofs.Loops.{line-some, line-none}
-use Rattle.lister.proofs.Join.{then, last}
-use Rattle.append.proofs.Laws.{puts-none}
-use mathlib.Core.Path.{_≡_, refl, sym, ap, _∙_}
+use mathlib.Core.Path.{sym}
+use Rattle.append.proofs.Laws.{then, last, puts-none}
+use Rattle.lister.proofs.Lines.{line-some, line-none}
 use borrow.Author.Needs.{needs}
 use Rattle.lister.proofs.body.line.Statement.{statement}
 use Rattle.lister.proofs.body.line.Tie as tie
@@ -12,8 +11,11 @@ returns c = rw (line-none (c .before .before .before .before .args .word .now) (
 put-requires : tie.Need-put-requires
 put-requires c κs = search needs
 
-bytes-requires : tie.Need-bytes-requires
-bytes-requires c κs = search needs
+slice-aggregate-hexes : tie.Need-slice-aggregate-hexes
+slice-aggregate-hexes c = search needs
+
+hexes-requires : tie.Need-hexes-requires
+hexes-requires c κs = search needs
 
 push-byte-requires : tie.Need-push-byte-requires
 push-byte-requires c κs = search needs
@@ -22,9 +24,16 @@ same-length : tie.Need-same-length
 same-length c = search needs
 
 returns-2 : tie.Need-returns-2
-returns-2 c = rw (line-some (c .before .before .before .before .before .before .before .before .before .before .before .before .before .before .before .before .args .word .now) (c .before .before .before .before .before .before .before .before .before .before .before .before .before .before .before .before .args .s .now) (c .before .before .before .before .before .before .before .before .before .before .before .before .if1 .left)) (then _ _ _ (c .before .before .before .before .before .before .before .before .before .before .put .ensures) (then _ _ _ (c .before .before .before .before .before .before .bytes .ensures) (last _ _ (c .before .before .push-byte .ensures))))
+returns-2 c = rw (line-some (c .before .before .before .before .before .before .before .before .before .before .before .before .before .before .before .before .before .args .word .now) (c .before .before .before .before .before .before .before .before .before .before .before .before .before .before .before .before .before .args .s .now) (c .before .before .before .before .before .before .before .before .before .before .before .before .before .if1 .left)) (then _ _ _ (c .before .before .before .before .before .before .before .before .before .before .before .put .ensures) (then _ _ _ (c .before .before .before .before .before .before .hexes .ensures) (last _ _ (c .before .before .push-byte .ensures))))
 
 pub line-spec : {M : Type 1} → statement M
 line-spec =
     tie.close
-    (tie.spec returns put-requires bytes-requires push-byte-requires same-length returns-2)
+    (tie.spec
+    returns
+    put-requires
+    slice-aggregate-hexes
+    hexes-requires
+    push-byte-requires
+    same-length
+    returns-2)

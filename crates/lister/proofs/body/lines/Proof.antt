@@ -1,9 +1,8 @@
-use Rattle.lister.proofs.Loops.{lines-start, lines-next, lines-end}
-use Rattle.lister.specs.Body.{linesFrom, linesText}
+use Rattle.append.proofs.Laws.{each-start, each-next, each-end}
+use Rattle.lister.specs.Body.{lineText, linesFrom, linesText}
 use Rattle.append.specs.Sheet.{sheet, puts}
-use borrow.Author.Needs.{needs}
 use native.Mathlib.Omega.{arith}
-use lib.ListN.{length, drop}
+use lib.ListN.{length}
 use Prim.Native.Nat.{_-_}
 use mathlib.Core.Path.{_≡_, refl, sym, ap, _∙_}
 use Rattle.lister.proofs.body.lines.Statement.{statement}
@@ -20,7 +19,7 @@ add-n : tie.Need-add-n Inv-loop μ-loop
 add-n c = omega arith
 
 loop-holds : tie.Need-loop-holds Inv-loop μ-loop
-loop-holds c = (refl, lines-start _ _ _ _)
+loop-holds c = (refl, each-start _ _ _)
 
 mul-part : tie.Need-mul-part Inv-loop μ-loop
 mul-part c = omega arith
@@ -38,14 +37,14 @@ loop-less : tie.Need-loop-less Inv-loop μ-loop
 loop-less c = omega arith
 
 loop-again : tie.Need-loop-again Inv-loop μ-loop
-loop-again c = ((c .before .before .line .kept .0) ∙ (c .before .before .before .before .before .before .loop .inv .0), (c .before .before .before .before .before .before .loop .inv .1) ∙ lines-next _ _ _ _ _ (c .before .before .before .before .before .loop-test .taken) (c .before .before .before .before .part .ensures) (c .before .before .line .ensures))
+loop-again c = ((c .before .before .line .kept .0) ∙ (c .before .before .before .before .before .before .loop .inv .0), (c .before .before .before .before .before .before .loop .inv .1) ∙ each-next _ _ _ _ (c .before .before .before .before .before .loop-test .taken) (c .before .before .line .ensures) (ap (lineText _) (c .before .before .before .before .part .ensures)))
 
 same-length : tie.Need-same-length Inv-loop μ-loop
 same-length c = (c .before .loop .inv .0)
 
 returns : tie.Need-returns Inv-loop μ-loop
 unfolding linesText
-returns c = sym ((c .before .loop .inv .1) ∙ lines-end _ _ _ _ _ (c .loop-test .left))
+returns c = sym ((c .before .loop .inv .1) ∙ each-end _ _ _ _ (c .loop-test .left))
 
 pub lines-spec : {M : Type 1} → statement M
 lines-spec =

@@ -1,10 +1,10 @@
-use Rattle.lister.proofs.Loops.{rows-start}
-use Rattle.lister.proofs.Loops.{rows-next, rows-end}
+use Rattle.append.proofs.Laws.{each-start, each-next, each-end}
+use Rattle.lister.specs.Row.{rowText}
 use Rattle.lister.specs.List.{rowsText, scriptText}
 use Rattle.append.specs.Sheet.{sheet, puts}
 use borrow.Author.Needs.{needs}
 use native.Mathlib.Omega.{arith}
-use lib.ListN.{length, drop}
+use lib.ListN.{length}
 use Prim.Native.Nat.{_-_}
 use mathlib.Core.Path.{_≡_, refl, sym, ap, _∙_}
 use Rattle.lister.proofs.list.rows.Statement.{statement}
@@ -18,7 +18,7 @@ abbrev μ-loop : tie.MeasureT-loop
 μ-loop out₀ at s n to₀ i₀ out to i = n - i
 
 loop-holds : tie.Need-loop-holds Inv-loop μ-loop
-loop-holds c = (refl, rows-start _ _ _)
+loop-holds c = (refl, each-start _ _ _)
 
 mul-part : tie.Need-mul-part Inv-loop μ-loop
 mul-part c = search needs
@@ -36,14 +36,14 @@ loop-less : tie.Need-loop-less Inv-loop μ-loop
 loop-less c = omega arith
 
 loop-again : tie.Need-loop-again Inv-loop μ-loop
-loop-again c = ((c .before .before .write-row .kept .0) ∙ (c .before .before .before .before .before .before .loop .inv .0), (c .before .before .before .before .before .before .loop .inv .1) ∙ rows-next _ _ _ _ (c .before .before .before .before .before .loop-test .taken) (c .before .before .before .before .part .ensures) (c .before .before .write-row .ensures))
+loop-again c = ((c .before .before .write-row .kept .0) ∙ (c .before .before .before .before .before .before .loop .inv .0), (c .before .before .before .before .before .before .loop .inv .1) ∙ each-next _ _ _ _ (c .before .before .before .before .before .loop-test .taken) (c .before .before .write-row .ensures) (ap rowText (c .before .before .before .before .part .ensures)))
 
 same-length : tie.Need-same-length Inv-loop μ-loop
 same-length c = (c .before .loop .inv .0)
 
 returns : tie.Need-returns Inv-loop μ-loop
 unfolding scriptText
-returns c = sym ((c .before .loop .inv .1) ∙ rows-end _ _ _ _ (c .loop-test .left))
+returns c = sym ((c .before .loop .inv .1) ∙ each-end _ _ _ _ (c .loop-test .left))
 
 pub rows-spec : {M : Type 1} → statement M
 rows-spec =

@@ -1,4 +1,4 @@
-use Rattle.lister.proofs.Join.{then, last}
+use Rattle.append.proofs.Laws.{then, last}
 use Rattle.lister.specs.List.{settingsText}
 use borrow.Author.Needs.{needs}
 use Rattle.lister.proofs.list.settings.Statement.{statement}

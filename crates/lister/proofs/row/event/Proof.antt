@@ -1,6 +1,5 @@
-use Rattle.lister.proofs.Join.{then}
-use Rattle.append.proofs.Laws.{puts-none}
-use mathlib.Core.Path.{_∙_, sym}
+use Rattle.append.proofs.Laws.{then, puts-none}
+use mathlib.Core.Path.{sym}
 use Rattle.lister.specs.Row.{eventText}
 use borrow.Author.Tests.{eq-eqb, ne-eqb}
 use borrow.Author.Needs.{needs}

@@ -1,5 +1,5 @@
-use Rattle.lister.proofs.Join.{then}
-use mathlib.Core.Path.{_∙_, ap}
+use Rattle.append.proofs.Laws.{then}
+use mathlib.Core.Path.{_∙_}
 use Rattle.lister.specs.Row.{padText}
 use borrow.Author.Needs.{needs}
 use Rattle.lister.proofs.row.pad.Statement.{statement}

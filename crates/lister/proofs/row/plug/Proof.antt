@@ -1,4 +1,4 @@
-use Rattle.lister.proofs.Join.{then}
+use Rattle.append.proofs.Laws.{then}
 use borrow.Author.Tests.{eq-eqb, ne-eqb}
 use Rattle.lister.specs.Row.{plugText}
 use borrow.Author.Needs.{needs}

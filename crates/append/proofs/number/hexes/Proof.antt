@@ -1,0 +1,59 @@
+use Rattle.append.proofs.Laws.{hexes-next, hexes-end}
+use Rattle.append.specs.Sheet.{sheet, puts}
+use Rattle.append.specs.Number.{hexes}
+use native.Mathlib.Omega.{arith}
+use lib.ListN.{length, drop}
+use Prim.Native.Nat.{_-_}
+use mathlib.Core.Path.{_≡_, refl, sym, _∙_}
+use Rattle.append.proofs.number.hexes.Statement.{statement}
+use Rattle.append.proofs.number.hexes.Tie as tie
+
+abbrev Inv-loop : tie.InvT-loop
+Inv-loop out₀ at before s to₀ i₀ out to i =
+    (length out ≡ length out₀) × (puts (sheet out₀ at) (hexes before s) ≡ puts (sheet out to) (hexes before (drop i s)))
+
+abbrev μ-loop : tie.MeasureT-loop
+μ-loop out₀ at before s to₀ i₀ out to i = length s - i
+
+loop-holds : tie.Need-loop-holds Inv-loop μ-loop
+loop-holds c = (refl, refl)
+
+put-requires : tie.Need-put-requires Inv-loop μ-loop
+put-requires c κs = tt
+
+shared-slice-read-hex-byte : tie.Need-shared-slice-read-hex-byte Inv-loop μ-loop
+shared-slice-read-hex-byte c = omega arith
+
+hex-byte-requires : tie.Need-hex-byte-requires Inv-loop μ-loop
+hex-byte-requires c κs = tt
+
+add-i : tie.Need-add-i Inv-loop μ-loop
+add-i c = omega arith
+
+loop-less : tie.Need-loop-less Inv-loop μ-loop
+loop-less c = omega arith
+
+loop-again : tie.Need-loop-again Inv-loop μ-loop
+loop-again c = ((c .before .before .hex-byte .kept .0) ∙ (c .before .before .before .before .before .before .before .put .kept .0) ∙ (c .before .before .before .before .before .before .before .before .before .before .loop .inv .0), (c .before .before .before .before .before .before .before .before .before .before .loop .inv .1) ∙ hexes-next _ _ _ _ (c .before .before .before .before .before .before .before .before .before .loop-test .taken) (c .before .before .before .before .before .before .before .put .ensures) (c .before .before .hex-byte .ensures))
+
+same-length : tie.Need-same-length Inv-loop μ-loop
+same-length c = (c .before .loop .inv .0)
+
+returns : tie.Need-returns Inv-loop μ-loop
+returns c = sym ((c .before .loop .inv .1) ∙ hexes-end _ _ _ _ (c .loop-test .left))
+
+pub hexes-spec : {M : Type 1} → statement M
+hexes-spec =
+    tie.close
+    (tie.spec
+    Inv-loop
+    μ-loop
+    loop-holds
+    put-requires
+    shared-slice-read-hex-byte
+    hex-byte-requires
+    add-i
+    loop-less
+    loop-again
+    same-length
+    returns)

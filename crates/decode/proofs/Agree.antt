@@ -2,14 +2,16 @@
 use Prim.Native.Nat.{ℕ, _^_, _≤_, _<_}
 use mathlib.Core.Bool.{true}
 use mathlib.Core.List.{[], _∷_}
-use mathlib.Core.Path.{_≡_, sym, ap, _∙_}
+use mathlib.Core.Path.{_≡_, sym, ap, subst, _∙_}
 use native.Mathlib.Omega.{arith}
 use borrow.Author.Tests.{le-leb}
-use lib.ListN.{getD}
+use lib.ListN.{length, getD}
 use mir.Val.{boolByte}
 use Rattle.common.proofs.AllLaws.{all-getD}
-use Rattle.decode.proofs.Accepted.{machine-ok}
-use Rattle.decode.proofs.Back.{machine-back}
+use Rattle.common.specs.All.{AllOf}
+use Rattle.common.specs.Fill.{Filled}
+use Rattle.decode.proofs.Accepted.{machine-ok, olds-filled}
+use Rattle.decode.proofs.Back.{machine-back, olds-back}
 use Rattle.decode.proofs.Tested.{flag-small, bank-ok, state-small, auto-small, auto-tests, progress-tests, place-small, old-tests}
 use Rattle.fields.specs.Little.{le, joined}
 use Rattle.fields.proofs.Number.{number}
@@ -115,3 +117,8 @@ module _ (m : Machine) (o : Olds) (f : FitMachine m) where
   -- and only then
   pub machine-only : entryOk (encode m o) ≡ true → machineOk m ≡ true
   machine-only h = ap machineOk (sym (machine-back m o f)) ∙ machine-ok (encode m o) h
+
+-- so with the old bytes, where there are four slots of them and each fits its type
+pub olds-only : (m : Machine) (o : Olds) → length (o .items) ≡ 4 → AllOf FitOld (o .items) → entryOk (encode m o) ≡ true → OldsOk o
+olds-only m o four fits h =
+    record { filled = subst (λ (x : Olds). Filled noOld 4 (x .count) (x .items)) (olds-back m o four fits) (olds-filled (encode m o) h); fits = fits }

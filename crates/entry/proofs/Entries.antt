@@ -35,7 +35,7 @@ module _ (m : Machine) (o : Olds) (f : FitMachine m) (p : machineOk m ≡ true) 
   -- the bytes of an entry
   pub there-and-back : decode (encode m o) ≡ record { ok = true; machine = m; olds = o }
   unfolding decode
-  there-and-back = λ i. record { ok = entry-ok m o f p g i; machine = machine-back m o f i; olds = olds-back m o g i }
+  there-and-back = λ i. record { ok = entry-ok m o f p g i; machine = machine-back m o f i; olds = olds-back m o (g .filled .size) (g .fits) i }
 
   -- the slot that was just written
   pub read-written : (r : List ℕ) (slot : ℕ) → slot < capacity entrySize r → decodeAt (written r slot m o) slot ≡ record { ok = true; machine = m; olds = o }

@@ -5,13 +5,13 @@ use mathlib.Core.List.{List, [], _∷_, _++_}
 use mathlib.Core.Path.{_≡_}
 use lib.ListN.{length}
 use Rattle.benchfile.specs.declared.row.Row.{Row}
-use Rattle.benchfile.specs.Bytes.{le4}
-use Rattle.benchfile.specs.Row.{bytesOf, lawful, rowAt}
+use Rattle.fields.specs.Little.{le}
+use Rattle.benchfile.specs.Row.{bytesOf, FitRow, lawful, rowAt}
 
 -- rows that can all stand in a script
 abbrev pub Lawful : List Row → Type 0
 Lawful [] = Unit
-Lawful (r ∷ rs) = (lawful r ≡ true) × Lawful rs
+Lawful (r ∷ rs) = FitRow r × (lawful r ≡ true) × Lawful rs
 
 -- the bytes of a script, row after row
 unfoldable pub scriptOf : List Row → List ℕ
@@ -30,7 +30,7 @@ rowsOf s = rowsFrom s (length s / 8) 0
 -- the contents of four bodies of these lengths
 unfoldable pub contentsOf : ℕ → ℕ → ℕ → ℕ → List ℕ
 contentsOf a b c d =
-    le4 32 ++ le4 a ++ le4 (32 + a) ++ le4 b ++ le4 (32 + a + b) ++ le4 c ++ le4 (32 + a + b + c) ++ le4 d
+    le 4 32 ++ le 4 a ++ le 4 (32 + a) ++ le 4 b ++ le 4 (32 + a + b) ++ le 4 c ++ le 4 (32 + a + b + c) ++ le 4 d
 
 -- contents, settings, RAM fill, ROM, script
 unfoldable pub build : List ℕ → List ℕ → List ℕ → List ℕ → List ℕ

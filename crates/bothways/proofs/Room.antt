@@ -8,7 +8,8 @@ use lib.Dec.{eqb, ltb}
 use lib.ListN.{length, take, drop, length-append}
 use Rattle.common.specs.Pick.{pick}
 use Rattle.common.specs.Table.{Entry, among, find}
-use Rattle.benchfile.specs.Bytes.{byteAt, twoAt, partOf}
+use Rattle.benchfile.specs.Bytes.{byteAt, partOf}
+use Rattle.fields.specs.Little.{field}
 use Rattle.benchfile.specs.Row.{rowBytes}
 use Rattle.lister.specs.Digits.{decimalOf}
 use Rattle.lister.specs.Body.{bytesText, lineText, linesFrom, linesText}
@@ -71,14 +72,14 @@ row-short : (b : List ℕ) → Short 36 (rowText b)
 unfolding rowText
 row-short b =
     short-found (texts b) (byteAt b 0) (
-      cycles-short (twoAt b 1) (byteAt b 3) (byteAt b 4),
+      cycles-short (field 2 b 1) (byteAt b 3) (byteAt b 4),
       (
         omega arith,
         (
           omega arith,
           (
             pad-short (byteAt b 1) (byteAt b 2) (byteAt b 3),
-            (plug-short (byteAt b 1) (byteAt b 2), (omega arith, (back-short (twoAt b 1), tt))),
+            (plug-short (byteAt b 1) (byteAt b 2), (omega arith, (back-short (field 2 b 1), tt))),
           ),
         ),
       ),

@@ -7,7 +7,8 @@ use native.Mathlib.Omega.{arith}
 use lib.ListN.{length}
 use lib.Seq.{take-all}
 use Rattle.append.specs.Sheet.{Sheet, puts}
-use Rattle.benchfile.specs.Bytes.{byteAt, twoAt, Bytes}
+use Rattle.benchfile.specs.Bytes.{byteAt, Bytes}
+use Rattle.fields.specs.Little.{field}
 use Rattle.benchfile.specs.File.{scriptFormed}
 use Rattle.benchfile.proofs.Numbers.{lo-back, hi-back}
 use Rattle.benchfile.proofs.Parts.{listed}
@@ -45,7 +46,7 @@ module _ (file : List ℕ) (f o s : Sheet) (k : State) where
 module _ (file a b c d : List ℕ) (sa : Bytes a) (sb : Bytes b) (sc : Bytes c) (sd : Bytes d) (two : length a ≡ 2) (least : 1 ≤ length b)
     (formed : scriptFormed d ≡ true) where
   abbrev pub number : ℕ
-  number = twoAt a 0
+  number = field 2 a 0
 
   small : number < 65536
   small =

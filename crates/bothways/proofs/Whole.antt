@@ -6,7 +6,8 @@ use native.Mathlib.Omega.{arith}
 use lib.ListN.{length, replicate, length-append}
 use Rattle.append.specs.Sheet.{Sheet, sheet, puts}
 use Rattle.append.proofs.Laws.{puts-append, puts-room}
-use Rattle.benchfile.specs.Bytes.{twoAt, Bytes}
+use Rattle.benchfile.specs.Bytes.{Bytes}
+use Rattle.fields.specs.Little.{field}
 use Rattle.benchfile.specs.File.{fileCheck}
 use Rattle.reader.specs.Reader.{startOf, unnamedOf}
 use Rattle.lister.specs.Body.{fillWord, romWord}
@@ -38,7 +39,7 @@ module _ (f : List ℕ) (small : Bytes f) (sound : fileCheck f ≡ 0) where
   unfolding listText
   text-short =
       let l = length-build settings ram image script in
-      let a = settings-short (twoAt settings 0) in
+      let a = settings-short (field 2 settings 0) in
       let b = lines-short fillWord (omega arith) ram in
       let c = lines-short romWord (omega arith) image in
       let d = script-short script in

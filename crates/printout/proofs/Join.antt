@@ -10,7 +10,8 @@ use lib.ListN.{length}
 use Rattle.bench.specs.Calls.{Desk}
 use Rattle.bench.specs.declared.operate.Answer.{Answer}
 use Rattle.bench.specs.Calls.{freshCall}
-use Rattle.benchfile.specs.Bytes.{byteAt, twoAt}
+use Rattle.benchfile.specs.Bytes.{byteAt}
+use Rattle.fields.specs.Little.{field}
 use Rattle.benchfile.specs.File.{fileCheck, sectionOf}
 use Rattle.benchfile.specs.Row.{rowOf, rowBytes}
 use Rattle.benchfile.specs.declared.row.Row.{Row}
@@ -83,7 +84,7 @@ module _ (rom script : List ℕ) (n : ℕ) (s₀ : Standing) where
   going-end {s} {i} g h = let e : i ≡ n = omega (arith, g .under) in g .is ∙ ap (λ (k : ℕ). steps rom script k s₀) e
 
 -- a file before its first row
-module _ (f low high out : List ℕ) {settings : List ℕ} {bits broken n : ℕ} {made : Answer} (p : settings ≡ sectionOf f 0) (q : bits ≡ twoAt settings 0)
+module _ (f low high out : List ℕ) {settings : List ℕ} {bits broken n : ℕ} {made : Answer} (p : settings ≡ sectionOf f 0) (q : bits ≡ field 2 settings 0)
     (m : made ≡ freshCall 65536 bits) (r : broken ≡ fileCheck f) (s : n ≡ startNumber broken (made .number)) where
   made-is : made ≡ madeFor f
   unfolding madeFor

@@ -7,7 +7,7 @@ use Rattle.common.specs.Pick.{pick}
 use Rattle.bench.specs.declared.Bench.{Bench}
 use Rattle.bench.specs.declared.operate.Answer.{Answer}
 use Rattle.bench.specs.Calls.{freshCall}
-use Rattle.benchfile.specs.Bytes.{twoAt}
+use Rattle.fields.specs.Little.{field}
 use Rattle.benchfile.specs.File.{fileCheck, sectionOf}
 use Rattle.lines.specs.Text.{Text, text, appended}
 use Rattle.lines.specs.Line.{refusedText}
@@ -30,7 +30,7 @@ startNumber broken bad = pick (eqb broken 0) bad broken
 
 -- fresh with the record's 65,536 bytes and the settings' bit cycles
 unfoldable pub madeFor : List ℕ → Answer
-madeFor f = freshCall 65536 (twoAt (sectionOf f 0) 0)
+madeFor f = freshCall 65536 (field 2 (sectionOf f 0) 0)
 
 -- why a file cannot be run, or 0
 unfoldable pub refusalOf : List ℕ → ℕ

@@ -1,6 +1,6 @@
 -- The public calls (document 01, "Calls"): result, machine, both banks and record, for all inputs. A refusal returns the machine given,
 -- false flags, zero numbers and no access, and alters nothing that was lent.
-use Prim.Native.Nat.{ℕ, _-_, _/_}
+use Prim.Native.Nat.{ℕ, _-_}
 use mathlib.Core.Bool.{Bool, false}
 use mathlib.Core.List.{List, [], _∷_}
 use lib.Dec.{eqb}

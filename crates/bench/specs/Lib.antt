@@ -1,5 +1,5 @@
-pub mod Refusal
 pub mod Ring
+pub mod Refusal
 pub mod Host
 pub mod Page
 pub mod Calls

@@ -5,9 +5,11 @@ use mathlib.Core.Path.{_≡_, refl, sym, ap, ap₂, _∙_}
 use native.Mathlib.Omega.{arith}
 use lib.ListN.{length, take, drop, length-take, length-drop}
 use lib.Seq.{take-add, take-length, drop-drop}
+use Rattle.common.proofs.AllLaws.{byte-fits}
 use Rattle.fields.specs.Little.{le, field}
 use Rattle.fields.proofs.Number.{span-back}
-use Rattle.benchfile.specs.Bytes.{partOf, Bytes}
+use Rattle.benchfile.specs.Bytes.{partOf}
+use Rattle.common.specs.Width.{Bytes}
 use Rattle.benchfile.specs.File.{startOf, sizeOf, endOf, bodyOf}
 use Rattle.benchfile.specs.Build.{contentsOf, build}
 use Rattle.benchfile.proofs.Parts.{listed}
@@ -20,7 +22,7 @@ fours f (suc n) k = le 4 (field 4 f k) ++ fours f n (k + 4)
 
 module _ (f : List ℕ) (small : Bytes f) where
   four-part : (k : ℕ) → k + 4 ≤ length f → partOf f k 4 ≡ le 4 (field 4 f k)
-  four-part k h = listed 4 f k h ∙ sym (span-back f small 4 k)
+  four-part k h = listed 4 f k h ∙ sym (span-back f (λ i. byte-fits f i small) 4 k)
 
   fours-part : (n k : ℕ) → k + n * 4 ≤ length f → partOf f k (n * 4) ≡ fours f n k
   fours-part zero k h = refl

@@ -4,7 +4,6 @@ use mathlib.Core.Bool.{Bool, true, false}
 use mathlib.Core.List.{[], _∷_}
 use mathlib.Core.Path.{_≡_, refl}
 use native.Mathlib.Omega.{arith}
-use mir.Val.{boolByte}
 use lib.Dec.{leb, eqb}
 use Rattle.fields.specs.Little.{joined}
 use Rattle.benchfile.specs.Row.{flagsOf}
@@ -17,12 +16,7 @@ module _ (l h : ℕ) (b : l < 256) where
   pub hi-back : joined (l ∷ h ∷ []) / 256 ≡ h
   hi-back = omega arith
 
--- a flag comes back from 0 or 1
-pub bit-back : (x : ℕ) → x ≤ 1 → boolByte (eqb x 1) ≡ x
-bit-back zero h = refl
-bit-back (suc zero) h = refl
-bit-back (suc (suc n)) h = absurd (omega arith)
-
+-- the flags of a row
 pub flags-back : (x : ℕ) → x ≤ 3 → flagsOf (eqb (x % 2) 1) (eqb (x / 2) 1) ≡ x
 flags-back zero h = refl
 flags-back (suc zero) h = refl

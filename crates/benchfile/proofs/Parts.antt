@@ -4,12 +4,13 @@ use mathlib.Core.List.{List, [], _∷_, _++_}
 use mathlib.Core.Path.{_≡_, refl, ap}
 use native.Mathlib.Numerals.{add-one}
 use native.Mathlib.Omega.{arith}
-use lib.Dec.{lit<}
-use lib.ListN.{length, take, drop, length-drop, drop-of-length-le, List·getD-eq-default}
-use lib.Seq.{take-nil, take-all, take-at, drop-at, drop-cons, getD-drop}
+use lib.ListN.{length, drop, length-drop, drop-of-length-le, List·getD-eq-default}
+use lib.Seq.{take-nil, take-all, take-at, drop-at, drop-cons}
 use Rattle.common.specs.Word.{word}
 use Rattle.fields.specs.Little.{span, field}
-use Rattle.benchfile.specs.Bytes.{byteAt, partOf, Bytes}
+use Rattle.benchfile.specs.Bytes.{byteAt, partOf}
+use Rattle.common.specs.Width.{Byte, Bytes}
+use Rattle.common.proofs.AllLaws.{all-take, all-drop}
 
 module _ (l : List ℕ) (k n : ℕ) where
   pub part-none : length l ≤ k → partOf l k n ≡ []
@@ -36,15 +37,9 @@ two-word l k = omega arith
 pub four-halves : (l : List ℕ) (k : ℕ) → field 2 l (k + 2) * 65536 + field 2 l k ≡ field 4 l k
 four-halves l k = let e : k + 1 + 1 ≡ k + 2 = omega arith in rw e (omega arith)
 
-take-bytes : (n : ℕ) (l : List ℕ) → Bytes l → Bytes (take n l)
-take-bytes zero l small i = lit< tt
-take-bytes (suc n) [] small i = lit< tt
-take-bytes (suc n) (x ∷ l) small zero = small 0
-take-bytes (suc n) (x ∷ l) small (suc i) = take-bytes n l (λ j. small (suc j)) i
-
 -- a part of bytes is bytes
 pub part-bytes : (l : List ℕ) (k n : ℕ) → Bytes l → Bytes (partOf l k n)
-part-bytes l k n small = take-bytes n (drop k l) (λ i. rw getD-drop (small (k + i)))
+part-bytes l k n small = all-take Byte n (drop k l) (all-drop Byte k l small)
 
 -- the n bytes from place k on, one by one
 pub listed : (n : ℕ) (l : List ℕ) (k : ℕ) → k + n ≤ length l → partOf l k n ≡ span n l k

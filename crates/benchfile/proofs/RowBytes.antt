@@ -13,12 +13,15 @@ use Rattle.common.specs.Pick.{pick}
 use Rattle.common.specs.Table.{find}
 use Rattle.benchfile.specs.declared.row.Row.{Row}
 use Rattle.benchfile.specs.declared.row.Row.the-variants.{Cycles, Read, Write, Pad, Plug, Answer, Back, Broken}
+use Rattle.common.proofs.AllLaws.{byte-fits}
 use Rattle.common.proofs.TableLaws.{pick-elim, find-elim}
 use Rattle.fields.specs.Little.{span, field}
+use Rattle.fields.proofs.Flag.{flag-back}
 use Rattle.fields.proofs.Number.{number, field-below}
-use Rattle.benchfile.specs.Bytes.{byteAt, Bytes}
+use Rattle.benchfile.specs.Bytes.{byteAt}
+use Rattle.common.specs.Width.{Bytes}
 use Rattle.benchfile.specs.Row.{zeros, formTable, formedRow, fieldTable, fieldsOf, rowOf, bytesOf, FitRow, lawful}
-use Rattle.benchfile.proofs.Numbers.{lo-back, hi-back, flags-small, due-back, timer-back, flags-back, bit-back}
+use Rattle.benchfile.proofs.Numbers.{lo-back, hi-back, flags-small, due-back, timer-back, flags-back}
 use Rattle.benchfile.proofs.Parts.{listed}
 use Rattle.benchfile.proofs.Zeros.{are}
 use Rattle.benchfile.proofs.Tests.{both}
@@ -69,7 +72,7 @@ row-bytes r h = rw (formed-bytes r h, fields-bytes r h)
 pub row-fits : (b : List ℕ) → Bytes b → FitRow (rowOf b)
 unfolding fieldsOf
 row-fits b small =
-    let w = field-below b small 2 in
+    let w = field-below b (λ i. byte-fits b i small) 2 in
     pick-elim FitRow (formedRow b) (find-elim FitRow (fieldTable b) (byteAt b 0) (w 1, (w 2, (w 2, (w 2, (tt {0}, (w 2, (w 1, tt {0}))))))) (tt {0})) (tt {0})
 
 module _ (b₀ b₁ b₂ b₃ b₄ b₅ b₆ b₇ : ℕ) (l₁ : b₁ < 256) (l₂ : b₂ < 256) (l₃ : b₃ < 256) where
@@ -101,7 +104,7 @@ module _ (b₀ b₁ b₂ b₃ b₄ b₅ b₆ b₇ : ℕ) (l₁ : b₁ < 256) (l�
   of-kind (inr (inr (inr (inr (inl (k, h)))))) =
       let p = both (leb b₂ 1) (zeros given 3) h in
       let e : b₀ ≡ 5 = k in
-      rw (e, are (b₃ ∷ b₄ ∷ b₅ ∷ b₆ ∷ b₇ ∷ []) (p .1), bit-back b₂ (leb-true b₂ 1 (p .0)))
+      rw (e, are (b₃ ∷ b₄ ∷ b₅ ∷ b₆ ∷ b₇ ∷ []) (p .1), flag-back b₂ (leb-true b₂ 1 (p .0)))
   of-kind (inr (inr (inr (inr (inr (inl (k, h))))))) =
       let p = both (eqb b₁ 0) (zeros given 5) h in
       let e : b₀ ≡ 6 = k in
@@ -122,5 +125,5 @@ module _ (b : List ℕ) where
       let e : span 8 b 0 ≡ b = sym (listed 8 b 0 (omega arith)) ∙ take-all 8 b (omega arith) in
       let kept : Holds (formTable b) (byteAt b 0) = found (formTable b) (byteAt b 0) (p .1) in
       let spread : Holds (formTable (span 8 b 0)) (byteAt b 0) = subst (λ (l : List ℕ). Holds (formTable l) (byteAt l 0)) (sym e) kept in
-      let back = of-kind (byteAt b 0) (byteAt b 1) (byteAt b 2) (byteAt b 3) (byteAt b 4) (byteAt b 5) (byteAt b 6) (byteAt b 7) (small 1) (small 2) (small 3) spread in
+      let back = of-kind (byteAt b 0) (byteAt b 1) (byteAt b 2) (byteAt b 3) (byteAt b 4) (byteAt b 5) (byteAt b 6) (byteAt b 7) (byte-fits b 1 small) (byte-fits b 2 small) (byte-fits b 3 small) spread in
       rw h (subst (λ (l : List ℕ). bytesOf (fieldsOf l) ≡ l) e back)

@@ -8,13 +8,22 @@ use lib.ListN.{length, getD, drop, length-append, take-append-drop, drop-of-leng
 use lib.Seq.{take-at, drop-append-add, drop-drop}
 use Rattle.benchfile.specs.declared.row.Row.{Row}
 use Rattle.benchfile.specs.declared.row.Row.the-variants.{Broken}
-use Rattle.benchfile.specs.Bytes.{Bytes}
+use Rattle.common.specs.Width.{Bytes}
 use Rattle.benchfile.specs.Row.{formedRow, rowBytes, rowAt, bytesOf, FitRow, lawful}
 use Rattle.benchfile.specs.File.{scriptFormed}
-use Rattle.benchfile.specs.Build.{Lawful, scriptOf, rowsFrom, rowsOf}
+use Rattle.benchfile.specs.Build.{Lawful, scriptOf}
 use Rattle.benchfile.proofs.Parts.{part-bytes}
 use Rattle.benchfile.proofs.Rows.{all, past, whole, script}
 use Rattle.benchfile.proofs.RowBytes.{eight, formed-bytes, row-bytes, row-fits, bytes-row}
+
+-- n rows of a script from row i on
+unfoldable pub rowsFrom : List ℕ → ℕ → ℕ → List Row
+rowsFrom s zero i = []
+rowsFrom s (suc n) i = rowAt s i ∷ rowsFrom s n (suc i)
+
+-- the rows of a script
+abbrev pub rowsOf : List ℕ → List Row
+rowsOf s = rowsFrom s (length s / 8) 0
 
 pub length-script : (rs : List Row) → length (scriptOf rs) ≡ length rs * 8
 unfolding scriptOf

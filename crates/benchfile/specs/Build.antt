@@ -1,12 +1,12 @@
 -- A bench file put together from its parts (document 01, "Bench file"), and a script from its rows.
-use Prim.Native.Nat.{ℕ, zero, suc, _+_, _/_, _≤_}
+use Prim.Native.Nat.{ℕ, _+_, _≤_}
 use mathlib.Core.Bool.{true}
 use mathlib.Core.List.{List, [], _∷_, _++_}
 use mathlib.Core.Path.{_≡_}
 use lib.ListN.{length}
 use Rattle.benchfile.specs.declared.row.Row.{Row}
 use Rattle.fields.specs.Little.{le}
-use Rattle.benchfile.specs.Row.{bytesOf, FitRow, lawful, rowAt}
+use Rattle.benchfile.specs.Row.{bytesOf, FitRow, lawful}
 
 -- rows that can all stand in a script
 abbrev pub Lawful : List Row → Type 0
@@ -17,15 +17,6 @@ Lawful (r ∷ rs) = FitRow r × (lawful r ≡ true) × Lawful rs
 unfoldable pub scriptOf : List Row → List ℕ
 scriptOf [] = []
 scriptOf (r ∷ rs) = bytesOf r ++ scriptOf rs
-
--- n rows of a script from row i on
-unfoldable pub rowsFrom : List ℕ → ℕ → ℕ → List Row
-rowsFrom s zero i = []
-rowsFrom s (suc n) i = rowAt s i ∷ rowsFrom s n (suc i)
-
--- the rows of a script
-abbrev pub rowsOf : List ℕ → List Row
-rowsOf s = rowsFrom s (length s / 8) 0
 
 -- the contents of four bodies of these lengths
 unfoldable pub contentsOf : ℕ → ℕ → ℕ → ℕ → List ℕ

@@ -1,5 +1,5 @@
 -- Bytes of a list, one and several; numbers are little-endian (document 01) and stand in fields/specs/Little.antt.
-use Prim.Native.Nat.{ℕ, _<_}
+use Prim.Native.Nat.{ℕ}
 use mathlib.Core.List.{List}
 use lib.ListN.{getD, take, drop}
 
@@ -10,7 +10,3 @@ byteAt l k = getD l k 0
 -- the n bytes from place k on, as far as there are any
 abbrev pub partOf : List ℕ → ℕ → ℕ → List ℕ
 partOf l k n = take n (drop k l)
-
--- every number of the list is a byte, as in a slice of bytes
-abbrev pub Bytes : List ℕ → Type 0
-Bytes l = (i : ℕ) → byteAt l i < 256

@@ -1,11 +1,12 @@
 -- A script row (document 01, "Bench file"): 8 bytes, kind first, fields without padding, all other bytes zero.
-use Prim.Native.Nat.{ℕ, _+_, _*_, _/_, _%_, _<_}
+use Prim.Native.Nat.{ℕ, _+_, _*_, _/_, _%_}
 use mathlib.Core.Bool.{Bool, true, false, _&&_}
 use mathlib.Core.List.{List, [], _∷_, _++_}
 use lib.ListN.{length, drop, replicate}
 use lib.Dec.{leb, eqb}
 use mir.Val.{boolByte}
 use Rattle.common.specs.Pick.{pick}
+use Rattle.common.specs.Width.{Word}
 use Rattle.common.specs.Table.{Entry, find, at}
 use Rattle.fields.specs.Little.{le, field}
 use Rattle.benchfile.specs.Bytes.{byteAt, partOf}
@@ -83,13 +84,13 @@ bytesOf Broken = replicate 8 0
 
 -- the words of a row, each in its two bytes
 abbrev pub FitRow : Row → Type 0
-FitRow (Cycles n event due timer) = n < 65536
-FitRow (Read bank a) = a < 65536
-FitRow (Write bank a x) = a < 65536
-FitRow (Pad port w) = w < 65536
+FitRow (Cycles n event due timer) = Word n
+FitRow (Read bank a) = Word a
+FitRow (Write bank a x) = Word a
+FitRow (Pad port w) = Word w
 FitRow (Plug port on) = Unit {0}
-FitRow (Answer a x) = a < 65536
-FitRow (Back n) = n < 65536
+FitRow (Answer a x) = Word a
+FitRow (Back n) = Word n
 FitRow Broken = Unit {0}
 
 -- a row that can stand in a script: counts are 1 up

@@ -9,8 +9,10 @@ use lib.ListN.{length}
 use lib.Seq.{take-all}
 use lib.Dec.{leb, eqb}
 use borrow.Author.Tests.{leb-true, eqb-true}
+use Rattle.common.proofs.AllLaws.{byte-fits}
 use Rattle.common.specs.Table.{find}
-use Rattle.benchfile.specs.Bytes.{byteAt, Bytes}
+use Rattle.benchfile.specs.Bytes.{byteAt}
+use Rattle.common.specs.Width.{Bytes}
 use Rattle.fields.specs.Little.{span, field}
 use Rattle.benchfile.specs.declared.row.Row.{Row}
 use Rattle.benchfile.specs.declared.row.Row.the-variants.{Cycles, Read, Write, Pad, Plug, Answer, Back, Broken}
@@ -103,7 +105,7 @@ module _ (k x₁ x₂ x₃ x₄ : ℕ) (p : ℕ) (o : Open p) where
       let w : span 8 b 0 ≡ b = sym (listed 8 b 0 (omega arith)) ∙ take-all 8 b (omega arith) in
       let kept : Holds (formTable b) (byteAt b 0) = found (formTable b) (byteAt b 0) (q .1) in
       let spread : Holds (formTable (span 8 b 0)) (byteAt b 0) = subst (λ (l : List ℕ). Holds (formTable l) (byteAt l 0)) (sym w) kept in
-      let back = of-kind (byteAt b 0) (byteAt b 1) (byteAt b 2) (byteAt b 3) (byteAt b 4) (byteAt b 5) (byteAt b 6) (byteAt b 7) (small 1) (small 2) (small 3) (small 4) spread in
+      let back = of-kind (byteAt b 0) (byteAt b 1) (byteAt b 2) (byteAt b 3) (byteAt b 4) (byteAt b 5) (byteAt b 6) (byteAt b 7) (byte-fits b 1 small) (byte-fits b 2 small) (byte-fits b 3 small) (byte-fits b 4 small) spread in
       subst (λ (l : List ℕ). quietly (before p k x₁ x₂ x₃ x₄ 0) (rowText l) ≡ before 4 (byteAt b 0) (byteAt b 1) (byteAt b 2) (byteAt b 3) (byteAt b 4) 3) w back
 
 -- the bytes behind the fields of a row are zero

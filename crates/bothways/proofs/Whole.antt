@@ -6,7 +6,7 @@ use native.Mathlib.Omega.{arith}
 use lib.ListN.{length, replicate, length-append}
 use Rattle.append.specs.Sheet.{Sheet, sheet, puts}
 use Rattle.append.proofs.Laws.{puts-append, puts-room}
-use Rattle.benchfile.specs.Bytes.{Bytes}
+use Rattle.common.specs.Width.{Bytes}
 use Rattle.fields.specs.Little.{field}
 use Rattle.benchfile.specs.File.{fileCheck}
 use Rattle.reader.specs.Reader.{startOf, unnamedOf}

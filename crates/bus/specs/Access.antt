@@ -1,10 +1,9 @@
 -- What an access does to the registers, and the log of accesses (document 01: 0 to 11 of them, in order, unused places zero).
-use Prim.Native.Nat.{ℕ, _+_, _%_, _^_}
+use Prim.Native.Nat.{ℕ}
 use mathlib.Core.Bool.{false}
 use mathlib.Core.List.{List}
-use lib.ListN.{set, replicate}
-use lib.Dec.{ltb}
-use Rattle.common.specs.Pick.{pick}
+use lib.ListN.{replicate}
+use Rattle.common.specs.Fill.{oneMore, storedIn}
 use Rattle.cartridge.specs.Cartridge.{romByte}
 use Rattle.registers.specs.Groups.{withIo-wmadd, withIo-openbus}
 use Rattle.registers.specs.Read.{readIo}
@@ -28,7 +27,7 @@ noLog = record { count = 0; items = replicate 11 noAccess }
 
 -- one more: the count steps, and the first eleven are stored
 unfoldable pub pushAccess : Log → Access → Log
-pushAccess log a = record { count = (log .count + 1) % 2 ^ 8; items = pick (ltb (log .count) 11) (set (log .items) (log .count) a) (log .items) }
+pushAccess log a = record { count = oneMore (log .count); items = storedIn 11 (log .count) (log .items) a }
 
 -- nothing done on the bus yet
 unfoldable pub opened : Io → Core

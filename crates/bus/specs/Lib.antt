@@ -2,4 +2,3 @@ pub mod Route
 pub mod Access
 pub mod World
 pub mod View
-pub mod Fit

@@ -2,7 +2,6 @@
 use Prim.Native.Nat.{ℕ}
 use mathlib.Core.Bool.{true, false}
 use mathlib.Core.List.{List}
-use mathlib.Core.Path.{_≡_}
 use Rattle.registers.specs.declared.Io.{Io}
 use Rattle.registers.specs.declared.read.IoRead.{IoRead}
 use Rattle.wram.specs.Banks.{Banks, banks, peeked, poked}
@@ -11,11 +10,9 @@ use Rattle.wram.specs.declared.Olds.{Olds}
 use Rattle.wram.specs.declared.Place.{Place}
 use Rattle.bus.specs.Access.{pushAccess, ioWritten, registerRead}
 use Rattle.bus.specs.Route.{routeOf, placeOf}
-use Rattle.bus.specs.declared.access.Access.{Access}
 use Rattle.bus.specs.declared.access.BusRead.{BusRead}
 use Rattle.bus.specs.declared.access.Core.{Core}
 use Rattle.bus.specs.declared.access.Log.{Log}
-use Rattle.bus.specs.declared.route.Route.{Route}
 
 pub record World : Type 0 where
   pub core : Core

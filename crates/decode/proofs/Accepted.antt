@@ -19,7 +19,7 @@ use Rattle.ranges.specs.Entry.{kindTests, zeroTests, flagTests, lineTests, bank
 use Rattle.ranges.specs.Machine.{machineTests, machineOk}
 use Rattle.ranges.specs.Tests.{all}
 use Rattle.ranges.proofs.Tests.{Every, every, whole}
-use Rattle.registers.specs.Fit.{Byte}
+use Rattle.common.specs.Width.{Byte}
 use Rattle.wram.specs.Olds.{noOld}
 use Rattle.wram.specs.Ranges.{OldsOk}
 

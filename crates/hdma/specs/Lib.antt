@@ -1,4 +1,3 @@
 pub mod Engine
 pub mod Entry
 pub mod Line
-pub mod Fit

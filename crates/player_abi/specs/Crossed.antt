@@ -2,7 +2,7 @@
 use Prim.Native.Nat.{ℕ}
 use mathlib.Core.Bool.{Bool}
 use mathlib.Core.List.{List, [], _∷_, _++_}
-use lib.ListN.{length, getD}
+use lib.ListN.{getD}
 use Rattle.bench.specs.Calls.{Desk, desk, CycleOut, ReadOut, WriteOut, PlainOut}
 use Rattle.bench.specs.declared.operate.Answer.{Answer}
 use Rattle.bus.specs.Access.{noAccess}
@@ -11,7 +11,7 @@ use Rattle.bus.specs.declared.access.Log.{Log}
 use Rattle.fields.specs.Little.{le}
 use Rattle.fields.specs.Patch.{patched}
 use Rattle.image.specs.Groups.{byte, flag, rows}
-use Rattle.player_abi.specs.Bytes.{benchOf, stored, saved}
+use Rattle.player_abi.specs.Bytes.{stored, saved}
 
 pub record Crossed : Type 0 where
   pub number : ℕ

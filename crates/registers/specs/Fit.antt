@@ -1,8 +1,8 @@
--- Every field of the register file fits its width and every array has its length: in specs a u8 is a bare number, so the types of the code are said here.
-use Prim.Native.Nat.{ℕ, _<_}
+-- Every field of the register file fits its width and every array has its length, as the types of the code have it.
 use mathlib.Core.Path.{_≡_}
 use lib.ListN.{length}
 use Rattle.common.specs.All.{AllOf}
+use Rattle.common.specs.Width.{Byte, Word, Long, Bytes}
 use Rattle.joypad.specs.declared.ControllerPort.{ControllerPort}
 use Rattle.registers.specs.declared.Enables.{Enables}
 use Rattle.registers.specs.declared.Flags.{Flags}
@@ -16,16 +16,6 @@ use Rattle.registers.specs.declared.pads.AutoJoypad.{AutoJoypad}
 use Rattle.registers.specs.declared.pads.AutoJoypad.the-variants.{Idle, Pending, Reading}
 use Rattle.registers.specs.declared.pads.Pads.{Pads}
 use Rattle.registers.specs.declared.wm_address.WmAddress.{WmAddress}
-
--- a u8, a u16 and a u32
-abbrev pub Byte : ℕ → Type 0
-Byte n = n < 256
-
-abbrev pub Word : ℕ → Type 0
-Word n = n < 65536
-
-abbrev pub Long : ℕ → Type 0
-Long n = n < 4294967296
 
 pub record FitWmAddress (w : WmAddress) : Type 0 where
   pub addr : Word (w .addr)
@@ -88,11 +78,11 @@ pub record FitChannel (c : DmaChannel) : Type 0 where
 
 pub record FitPorts (p : Ports) : Type 0 where
   pub ppu-length : length (p .ppu) ≡ 12
-  pub ppu : AllOf Byte (p .ppu)
+  pub ppu : Bytes (p .ppu)
   pub apu-length : length (p .apu) ≡ 4
-  pub apu : AllOf Byte (p .apu)
+  pub apu : Bytes (p .apu)
   pub written-length : length (p .written) ≡ 4
-  pub written : AllOf Byte (p .written)
+  pub written : Bytes (p .written)
 
 pub record FitIo (io : Io) : Type 0 where
   pub wmadd : FitWmAddress (io .wmadd)

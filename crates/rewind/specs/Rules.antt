@@ -7,7 +7,7 @@ use Rattle.bench.specs.Host.{withIo, padSet, plugSet, answerSet}
 use Rattle.bus.specs.Access.{opened}
 use Rattle.bus.specs.World.{World, readAt, writeAt}
 use Rattle.machine.specs.Cycle.{Turned, machineAfter, cycled}
-use Rattle.registers.specs.Fit.{Byte, Word}
+use Rattle.common.specs.Width.{Byte, Word}
 use Rattle.state.specs.declared.Machine.{Machine}
 use Rattle.wram.specs.Banks.{Banks}
 use Rattle.wram.specs.Olds.{noOlds}

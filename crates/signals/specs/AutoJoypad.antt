@@ -1,10 +1,10 @@
 -- The automatic joypad read (bus/src/io.rs; Fullsnes, "Joypad automatic reading").
-use Prim.Native.Nat.{ℕ, _-_, _*_, _%_, _^_}
+use Prim.Native.Nat.{ℕ, _-_}
 use mathlib.Core.Bool.{true, false}
 use lib.Bits.{bitAnd, bitOr}
 use lib.Dec.{eqb, ltb}
 use Rattle.common.specs.Pick.{pick}
-use Rattle.joypad.specs.Port.{data1, clock}
+use Rattle.joypad.specs.Port.{shl1, data1, clock}
 use Rattle.registers.specs.Groups.{withIo-pads, withIo-joys, withPads-auto, withPads-port1, withPads-port2}
 use Rattle.registers.specs.Lines.{latchBoth, latchOf}
 use Rattle.registers.specs.declared.Io.{Io}
@@ -25,10 +25,6 @@ pulsed p = latchBoth (latchBoth p true) (latchOf (p .joyout))
 -- both pads are strobed, HVBJOY says busy, and sixteen bits are to come
 abbrev pub strobed : Io → ℕ → Io
 strobed io bitcycles = nowAuto (setBusy (withIo-pads io (pulsed (io .pads))) true) (Reading 16 (bitcycles - 1))
-
--- shifted left in 16 bits
-abbrev pub shl1 : ℕ → ℕ
-shl1 w = w * 2 ^ 1 % 2 ^ 16
 
 -- a bit from each first data line, 0 from each second
 abbrev pub joysShifted : Joys → ℕ → ℕ → Joys

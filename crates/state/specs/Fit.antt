@@ -4,7 +4,8 @@ use Prim.Native.Nat.{_<_, _^_}
 use mathlib.Core.Path.{_≡_}
 use lib.ListN.{length}
 use Rattle.common.specs.All.{AllOf}
-use Rattle.registers.specs.Fit.{Byte, Word, Long, FitIo}
+use Rattle.registers.specs.Fit.{FitIo}
+use Rattle.common.specs.Width.{Byte, Word, Long}
 use Rattle.state.specs.declared.Board.{Board}
 use Rattle.state.specs.declared.Dma.{Dma}
 use Rattle.state.specs.declared.DmaProgress.{DmaProgress}

@@ -1,8 +1,8 @@
 -- The bytes of work RAM that an operation overwrites, in write order (document 01: each write counts, an equal byte too).
-use Prim.Native.Nat.{ℕ, zero, suc, _+_, _%_, _^_, min}
-use mathlib.Core.Bool.{Bool, true, false}
-use lib.ListN.{getD, set, replicate}
-use lib.Dec.{ltb}
+use Prim.Native.Nat.{ℕ, zero, suc, min}
+use mathlib.Core.Bool.{true, false}
+use lib.ListN.{getD, replicate}
+use Rattle.common.specs.Fill.{oneMore, storedIn}
 use Rattle.common.specs.Pick.{pick}
 use Rattle.wram.specs.Banks.{Banks, peeked, poked}
 use Rattle.wram.specs.declared.Old.{Old}
@@ -19,7 +19,7 @@ noOlds = record { count = 0; items = replicate 4 noOld }
 
 -- one more: the count steps, and the first four are stored
 unfoldable pub pushOld : Olds → Old → Olds
-pushOld olds o = record { count = (olds .count + 1) % 2 ^ 8; items = pick (ltb (olds .count) 4) (set (olds .items) (olds .count) o) (olds .items) }
+pushOld olds o = record { count = oneMore (olds .count); items = storedIn 4 (olds .count) (olds .items) o }
 
 -- what stands at a place is kept
 unfoldable pub keptAt : Olds → Banks → Place → Olds

@@ -1,5 +1,4 @@
-use Rattle.lister.proofs.Loops.{rows-start}
-use Rattle.lister.proofs.Loops.{rows-next, rows-end}
+use Rattle.lister.proofs.Loops.{rows-start, rows-next, rows-end}
 use Rattle.lister.specs.List.{rowsText, scriptText}
 use Rattle.append.specs.Sheet.{sheet, puts}
 use borrow.Author.Needs.{needs}

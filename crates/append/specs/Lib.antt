@@ -1,1 +1,2 @@
+-- Bytes put one after the other into a lent buffer.
 pub mod Sheet

@@ -11,9 +11,11 @@ use Rattle.registers.specs.Groups.{withIo-pads, withIo-ports, withPads-port1, w
 use Rattle.registers.specs.declared.Io.{Io}
 use Rattle.state.specs.declared.Machine.{Machine}
 
+-- the machine with another register file
 abbrev pub withIo : Machine → Io → Machine
 withIo m io = record { io = io; dma = m .dma; board = m .board }
 
+-- the machine with other pad words
 abbrev pub withPads : Machine → ℕ → ℕ → Machine
 withPads m one two =
     let b = m .board in
@@ -24,6 +26,7 @@ unfoldable pub padSet : Machine → ℕ → ℕ → Machine
 padSet m port w =
     pick (eqb port 0) (withPads m (buttonsOf w) (m .board .pad2)) (withPads m (m .board .pad1) (buttonsOf w))
 
+-- a port with or without a pad
 abbrev pub connect : ControllerPort → Bool → ControllerPort
 connect p on = record { connected = on; latch = p .latch; buttons = p .buttons; shift = p .shift }
 

@@ -18,6 +18,7 @@ use Rattle.bus.specs.declared.access.Log.{Log}
 use Rattle.bus.specs.declared.route.Route.{Route}
 use Rattle.bus.specs.declared.route.Route.the-variants.{Bank7E, Bank7F, Data, Registers, Cartridge}
 
+-- an unused place
 abbrev pub noAccess : Access
 noAccess = record { write = false; bank = 0; addr = 0; byte = 0 }
 
@@ -45,6 +46,7 @@ ioWritten io Data a v = dataStepped io v
 ioWritten io Registers a v = writeIo io a v
 ioWritten io Cartridge a v = io
 
+-- a read that gives a byte
 abbrev pub gave : Io → ℕ → IoRead
 gave io v = record { io = io; byte = v }
 

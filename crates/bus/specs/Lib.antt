@@ -1,3 +1,4 @@
+-- The bus: routes and speeds, accesses and their log, the world that an access changes, what the DMA unit sees.
 pub mod Route
 pub mod Access
 pub mod World

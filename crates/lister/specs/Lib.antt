@@ -1,3 +1,4 @@
+-- A bench file as text: digits, rows, bodies, the whole.
 pub mod Digits
 pub mod Row
 pub mod Body

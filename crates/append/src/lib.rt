@@ -3,8 +3,7 @@ pub mod number;
 
 ghost use mathlib.Core.Path.{_≡_};
 ghost use denote.Ref.{now};
-ghost use Rattle.append.specs.Sheet.{sheet, push};
-ghost use Rattle.append.specs.Sheet.{puts};
+ghost use Rattle.append.specs.Sheet.{sheet, push, puts};
 
 // One byte; answers the place behind it.
 pub fn push_byte(out: &mut [u8], at: usize, byte: u8) -> usize

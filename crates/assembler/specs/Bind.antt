@@ -4,7 +4,7 @@ use mathlib.Core.List.{List, _++_}
 use lib.Dec.{ltb}
 use lib.ListN.{length}
 use Rattle.common.specs.Pick.{pick}
-use Rattle.benchfile.specs.Bytes.{le4}
+use Rattle.fields.specs.Little.{le}
 
 -- a length as a file can hold it; a longer body makes no file
 unfoldable pub sizeOf : ℕ → ℕ
@@ -16,7 +16,7 @@ fillSize n = pick (ltb n 2) 0 (sizeOf (n - 2))
 
 -- a row of the contents: start and length
 unfoldable pub headOf : ℕ → ℕ → List ℕ
-headOf a n = le4 a ++ le4 n
+headOf a n = le 4 a ++ le 4 n
 
 -- the contents of settings, a fill, a ROM and a script of these lengths
 unfoldable pub contentsText : ℕ → ℕ → ℕ → List ℕ

@@ -2,7 +2,7 @@
 ghost use mathlib.Core.Path.{_≡_};
 ghost use denote.Ref.{now};
 ghost use Rattle.append.specs.Sheet.{sheet, puts};
-ghost use Rattle.benchfile.specs.Bytes.{le4};
+ghost use Rattle.fields.specs.Little.{le};
 ghost use Rattle.assembler.specs.Bind.{sizeOf, fillSize, headOf, contentsText, bound};
 use append::put;
 
@@ -21,13 +21,13 @@ fn fill_size(n: usize) -> u16
 }
 
 fn four(x: u32) -> [u8; 4]
-    ensures { λ r. ⌜ r ≡ le4 x ⌝ }
+    ensures { λ r. ⌜ r ≡ le 4 x ⌝ }
 {
     [
-        (x % 65536 % 256) as u8,
-        (x % 65536 / 256) as u8,
-        (x / 65536 % 256) as u8,
-        (x / 65536 / 256) as u8,
+        (x % 256) as u8,
+        (x / 256 % 256) as u8,
+        (x / 256 / 256 % 256) as u8,
+        (x / 256 / 256 / 256 % 256) as u8,
     ]
 }
 

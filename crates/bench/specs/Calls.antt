@@ -1,6 +1,6 @@
 -- The public calls (document 01, "Calls"): result, machine, both banks and record, for all inputs. A refusal returns the machine given,
 -- false flags, zero numbers and no access, and alters nothing that was lent.
-use Prim.Native.Nat.{ℕ, _-_, _/_}
+use Prim.Native.Nat.{ℕ, _-_}
 use mathlib.Core.Bool.{Bool, false}
 use mathlib.Core.List.{List, [], _∷_}
 use lib.Dec.{eqb}
@@ -55,9 +55,11 @@ recorded d next olds ram =
 abbrev pub events : List (Entry Event)
 events = at 1 HBlankStart ∷ at 2 NormalLine ∷ at 3 VBlankStart ∷ at 4 FrameStart ∷ []
 
+-- an event by its number
 abbrev pub eventOf : ℕ → Event
 eventOf n = find events n Nothing
 
+-- what a cycle answers and leaves
 pub record CycleOut : Type 0 where
   pub number : ℕ
   pub held : Bool
@@ -68,17 +70,21 @@ pub record CycleOut : Type 0 where
 abbrev pub cycleOut : CycleAnswer → List ℕ → List ℕ → List ℕ → CycleOut
 cycleOut r l h e = record { number = r .number; held = r .held; edge = r .edge; log = r .log; desk = desk (r .bench) l h e }
 
+-- the machine of a turn, as the code has it
 abbrev pub machineOf : Turn → Machine
 machineOf t = record { io = t .core .io; dma = t .dma; board = t .board }
 
+-- an accepted cycle
 abbrev pub cycleDone : Desk → Turned → CycleOut
 cycleDone d t =
     let k = t .after .world .core in
     record { number = 0; held = t .held; edge = t .edge; log = k .log; desk = recorded d (machineAfter t) (k .olds) (t .after .world .ram) }
 
+-- a refused one
 abbrev pub cycleRefused : Desk → ℕ → CycleOut
 cycleRefused d n = record { number = n; held = false; edge = false; log = noLog; desk = d }
 
+-- number 0 leads to the operation, any other to the desk as it was given
 unfoldable pub cycleCall : List ℕ → Desk → ℕ → Bool → Bool → CycleOut
 cycleCall rom d event line timer =
     let n = cycleNumber (lentOf d (length rom)) (d .bench) event in
@@ -90,6 +96,7 @@ cycleCall rom d event line timer =
 abbrev pub worldOf : Desk → World
 worldOf d = record { core = opened (d .bench .machine .io); ram = d .ram }
 
+-- what an access costs
 abbrev pub costAt : Desk → ℕ → ℕ → ℕ
 costAt d bank addr = costOf (d .bench .machine .io .enables .memsel) bank addr
 
@@ -97,6 +104,7 @@ costAt d bank addr = costOf (d .bench .machine .io .enables .memsel) bank addr
 abbrev pub bused : Desk → World → Desk
 bused d w = recorded d (withIo (d .bench .machine) (w .core .io)) (w .core .olds) (w .ram)
 
+-- what a read answers and leaves
 pub record ReadOut : Type 0 where
   pub number : ℕ
   pub byte : ℕ
@@ -106,6 +114,7 @@ pub record ReadOut : Type 0 where
 abbrev pub readOut : ReadAnswer → List ℕ → List ℕ → List ℕ → ReadOut
 readOut r l h e = record { number = r .number; byte = r .byte; cost = r .cost; desk = desk (r .bench) l h e }
 
+-- an accepted read
 abbrev pub readDone : Desk → Reading → ℕ → ReadOut
 readDone d r cost = record { number = 0; byte = r .byte; cost = cost; desk = bused d (r .world) }
 
@@ -114,6 +123,7 @@ readCall rom d bank addr =
     let n = lentOf d (length rom) in
     pick (eqb n 0) (readDone d (readAt rom (worldOf d) bank addr) (costAt d bank addr)) (record { number = n; byte = 0; cost = 0; desk = d })
 
+-- what a write answers and leaves
 pub record WriteOut : Type 0 where
   pub number : ℕ
   pub cost : ℕ
@@ -130,6 +140,7 @@ writeCall rom d bank addr byte =
 
 -- ---- pad, plug and port answer: the host changes the machine, and work RAM is not written
 
+-- a number, and what the call leaves
 pub record PlainOut : Type 0 where
   pub number : ℕ
   pub desk : Desk
@@ -145,13 +156,16 @@ pub record Hosting : Type 0 where
 abbrev pub hosting : Answer → List ℕ → Hosting
 hosting r e = record { number = r .number; noted = noting (r .bench) e }
 
+-- an accepted change writes one entry, with no old bytes
 unfoldable pub hosted : Bench → List ℕ → ℕ → Machine → Hosting
 hosted b e number next =
     pick (eqb number 0) (record { number = 0; noted = noted b e next noOlds }) (record { number = number; noted = noting b e })
 
+-- with the banks as they were
 abbrev pub onBanks : Banks → Hosting → PlainOut
 onBanks ram x = record { number = x .number; desk = record { bench = x .noted .bench; ram = ram; entries = x .noted .entries } }
 
+-- what a call of the host leaves, by its number and the machine that it would leave
 abbrev pub hostCall : Desk → ℕ → Machine → PlainOut
 hostCall d number next = onBanks (d .ram) (hosted (d .bench) (d .entries) number next)
 
@@ -175,6 +189,7 @@ restored d e slot =
       entries = d .entries;
     }
 
+-- the newest entry stands in the slot before the next one
 unfoldable pub backCall : Desk → PlainOut
 backCall d =
     let slot = before (capacity (d .bench)) (d .bench .slot) in

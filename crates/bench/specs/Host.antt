@@ -1,20 +1,21 @@
 -- What the host does to the machine (document 01, "Calls"): pad word, plug, port answer.
 use Prim.Native.Nat.{ℕ, _-_}
 use mathlib.Core.Bool.{Bool}
-use lib.Bits.{bitAnd}
 use lib.Dec.{eqb}
 use lib.ListN.{set}
 use Rattle.common.specs.Pick.{pick}
 use Rattle.common.specs.Range.{within}
+use Rattle.joypad.specs.Port.{buttonsOf}
 use Rattle.joypad.specs.declared.ControllerPort.{ControllerPort}
 use Rattle.registers.specs.Groups.{withIo-pads, withIo-ports, withPads-port1, withPads-port2, withPorts-ppu, withPorts-apu}
 use Rattle.registers.specs.declared.Io.{Io}
-use Rattle.state.specs.declared.Board.{Board}
 use Rattle.state.specs.declared.Machine.{Machine}
 
+-- the machine with another register file
 abbrev pub withIo : Machine → Io → Machine
 withIo m io = record { io = io; dma = m .dma; board = m .board }
 
+-- the machine with other pad words
 abbrev pub withPads : Machine → ℕ → ℕ → Machine
 withPads m one two =
     let b = m .board in
@@ -23,8 +24,9 @@ withPads m one two =
 -- the pad word of a port, without its low four bits, and nothing else
 unfoldable pub padSet : Machine → ℕ → ℕ → Machine
 padSet m port w =
-    pick (eqb port 0) (withPads m (bitAnd w (65535 - 15)) (m .board .pad2)) (withPads m (m .board .pad1) (bitAnd w (65535 - 15)))
+    pick (eqb port 0) (withPads m (buttonsOf w) (m .board .pad2)) (withPads m (m .board .pad1) (buttonsOf w))
 
+-- a port with or without a pad
 abbrev pub connect : ControllerPort → Bool → ControllerPort
 connect p on = record { connected = on; latch = p .latch; buttons = p .buttons; shift = p .shift }
 

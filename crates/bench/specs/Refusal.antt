@@ -1,9 +1,10 @@
 -- Document 01's table of refusals, line by line, and which lines each call tests. A number is 0 where nothing refuses.
-use Prim.Native.Nat.{ℕ, _/_, _%_}
+use Prim.Native.Nat.{ℕ, _%_}
 use mathlib.Core.Bool.{Bool, not, _||_}
 use lib.Dec.{eqb, ltb, leb}
 use Rattle.common.specs.Pick.{pick}
 use Rattle.ranges.specs.Machine.{machineOk}
+use Rattle.bench.specs.Ring.{capacity}
 use Rattle.bench.specs.declared.Bench.{Bench}
 
 -- 1: a work RAM slice is not 65,536 bytes
@@ -23,7 +24,7 @@ romOff rom = ltb 4194304 rom
 
 -- 4: machine breaks the ranges, next slot is not under the capacity, or kept is over it
 abbrev pub benchOff : Bench → Bool
-benchOff b = not (machineOk (b .machine)) || leb (b .length / 256) (b .slot) || ltb (b .length / 256) (b .kept)
+benchOff b = not (machineOk (b .machine)) || leb (capacity b) (b .slot) || ltb (capacity b) (b .kept)
 
 -- 6, answer: address outside $2134-$213F and $2140-$2143
 abbrev pub addressOff : ℕ → Bool

@@ -24,6 +24,7 @@ capacity b = b .length / 256
 abbrev pub bench : Machine → ℕ → ℕ → ℕ → Bench
 bench m slot kept length = record { machine = m; slot = slot; kept = kept; length = length }
 
+-- the machine with its counts, and the record
 pub record Noted : Type 0 where
   pub bench : Bench
   pub entries : List ℕ

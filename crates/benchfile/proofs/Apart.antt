@@ -5,24 +5,24 @@ use mathlib.Core.Path.{_≡_, refl, sym, ap, ap₂, _∙_}
 use native.Mathlib.Omega.{arith}
 use lib.ListN.{length, take, drop, length-take, length-drop}
 use lib.Seq.{take-add, take-length, drop-drop}
-use Rattle.benchfile.specs.Bytes.{byteAt, fourAt, partOf, le4, Bytes}
+use Rattle.common.proofs.AllLaws.{byte-fits}
+use Rattle.fields.specs.Little.{le, field}
+use Rattle.fields.proofs.Number.{span-back}
+use Rattle.benchfile.specs.Bytes.{partOf}
+use Rattle.common.specs.Width.{Bytes}
 use Rattle.benchfile.specs.File.{startOf, sizeOf, endOf, bodyOf}
 use Rattle.benchfile.specs.Build.{contentsOf, build}
-use Rattle.benchfile.proofs.Numbers.{bytes-back}
 use Rattle.benchfile.proofs.Parts.{listed}
 use Rattle.benchfile.proofs.Facts.{Facts}
 
 -- n numbers of four bytes, from place k on
 abbrev fours : List ℕ → ℕ → ℕ → List ℕ
 fours f zero k = []
-fours f (suc n) k = le4 (fourAt f k) ++ fours f n (k + 4)
+fours f (suc n) k = le 4 (field 4 f k) ++ fours f n (k + 4)
 
 module _ (f : List ℕ) (small : Bytes f) where
-  four-part : (k : ℕ) → k + 4 ≤ length f → partOf f k 4 ≡ le4 (fourAt f k)
-  four-part k h =
-      let e : k + 1 + 1 ≡ k + 2 = omega arith in
-      let back = bytes-back (byteAt f k) (byteAt f (k + 1)) (byteAt f (k + 2)) (byteAt f (k + 2 + 1)) (small k) (small (k + 1)) (small (k + 2)) in
-      listed 4 f k h ∙ rw e (sym back)
+  four-part : (k : ℕ) → k + 4 ≤ length f → partOf f k 4 ≡ le 4 (field 4 f k)
+  four-part k h = listed 4 f k h ∙ sym (span-back f (λ i. byte-fits f i small) 4 k)
 
   fours-part : (n k : ℕ) → k + n * 4 ≤ length f → partOf f k (n * 4) ≡ fours f n k
   fours-part zero k h = refl
@@ -51,8 +51,8 @@ module _ (f : List ℕ) (t : Facts f) where
 
 module _ (f : List ℕ) (t : Facts f) (small : Bytes f) where
   rows : fours f 8 0
-      ≡ le4 (startOf f 0) ++ le4 (sizeOf f 0) ++ le4 (startOf f 1) ++ le4 (sizeOf f 1) ++ le4 (startOf f 2) ++ le4 (sizeOf f 2)
-      ++ le4 (startOf f 3) ++ le4 (sizeOf f 3)
+      ≡ le 4 (startOf f 0) ++ le 4 (sizeOf f 0) ++ le 4 (startOf f 1) ++ le 4 (sizeOf f 1) ++ le 4 (startOf f 2) ++ le 4 (sizeOf f 2)
+      ++ le 4 (startOf f 3) ++ le 4 (sizeOf f 3)
   unfolding startOf sizeOf
   rows = refl
 

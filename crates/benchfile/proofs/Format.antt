@@ -4,16 +4,16 @@ use mathlib.Core.Bool.{Bool, true, false}
 use mathlib.Core.List.{List, []}
 use mathlib.Core.Path.{_≡_, refl, ap, _∙_}
 use native.Mathlib.Omega.{arith}
-use lib.ListN.{getD}
+use lib.ListN.{length, getD}
 use borrow.Author.Tests.{le-leb}
 use Rattle.common.specs.Pick.{pick}
 use Rattle.benchfile.specs.declared.row.Row.the-variants.{Broken}
-use Rattle.benchfile.specs.Bytes.{Bytes}
+use Rattle.common.specs.Width.{Bytes}
 use Rattle.benchfile.specs.Row.{rowAt}
 use Rattle.benchfile.specs.File.{startOf, sizeOf, bodyOf, sound, fileCheck, sectionNumber, sectionOf}
-use Rattle.benchfile.specs.Build.{scriptOf, rowsOf, build, Bench}
+use Rattle.benchfile.specs.Build.{scriptOf, build, Bench}
+use Rattle.benchfile.proofs.Scripts.{rowsOf, script-row, script-formed, script-back, rows-lawful}
 use Rattle.benchfile.proofs.Parts.{part-bytes}
-use Rattle.benchfile.proofs.Scripts.{script-row, script-formed, script-back, rows-lawful}
 use Rattle.benchfile.proofs.Facts.{facts}
 use Rattle.benchfile.proofs.Apart.{body-length, apart}
 use Rattle.benchfile.proofs.Built.{body-0, body-1, body-2, body-3, sound-build}
@@ -29,7 +29,7 @@ module _ (f : List ℕ) where
       let short = rw (b .is) at (b .short) in
       let script = script-formed (b .rows) (b .formed) in
       ap sound (b .is)
-      ∙ sound-build (b .settings) (b .fill) (b .rom) (scriptOf (b .rows)) (b .two) (b .least) (b .most) script short
+      ∙ sound-build (b .settings) (b .fill) (b .rom) (scriptOf (b .rows)) short (b .two) (b .least) (b .most) script
 
   -- every file that is put together by the rules is accepted
   pub accepted : Bench f → fileCheck f ≡ 0
@@ -66,20 +66,23 @@ refused f k h = rw h
 
 -- the sections of a bench file are its parts
 module _ (f : List ℕ) (b : Bench f) where
+  short : length (build (b .settings) (b .fill) (b .rom) (scriptOf (b .rows))) ≤ 65536
+  short = rw (b .is) at (b .short)
+
   section : (k : ℕ) → k ≤ 3 → sectionOf f k ≡ bodyOf (build (b .settings) (b .fill) (b .rom) (scriptOf (b .rows))) k
   section k h = rw (le-leb k 3 h, sound-bench f b) (ap (λ (l : List ℕ). bodyOf l k) (b .is))
 
   pub section-0 : sectionOf f 0 ≡ b .settings
-  section-0 = section 0 (omega arith) ∙ body-0 (b .settings) (b .fill) (b .rom) (scriptOf (b .rows))
+  section-0 = section 0 (omega arith) ∙ body-0 (b .settings) (b .fill) (b .rom) (scriptOf (b .rows)) short
 
   pub section-1 : sectionOf f 1 ≡ b .fill
-  section-1 = section 1 (omega arith) ∙ body-1 (b .settings) (b .fill) (b .rom) (scriptOf (b .rows))
+  section-1 = section 1 (omega arith) ∙ body-1 (b .settings) (b .fill) (b .rom) (scriptOf (b .rows)) short
 
   pub section-2 : sectionOf f 2 ≡ b .rom
-  section-2 = section 2 (omega arith) ∙ body-2 (b .settings) (b .fill) (b .rom) (scriptOf (b .rows))
+  section-2 = section 2 (omega arith) ∙ body-2 (b .settings) (b .fill) (b .rom) (scriptOf (b .rows)) short
 
   pub section-3 : sectionOf f 3 ≡ scriptOf (b .rows)
-  section-3 = section 3 (omega arith) ∙ body-3 (b .settings) (b .fill) (b .rom) (scriptOf (b .rows))
+  section-3 = section 3 (omega arith) ∙ body-3 (b .settings) (b .fill) (b .rom) (scriptOf (b .rows)) short
 
   -- and the rows of its script are its rows
   pub row : (i : ℕ) → rowAt (sectionOf f 3) i ≡ getD (b .rows) i Broken

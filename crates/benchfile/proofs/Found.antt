@@ -7,7 +7,8 @@ use mathlib.Core.Path.{_≡_, refl}
 use lib.Dec.{eqb}
 use borrow.Author.Tests.{eqb-true}
 use Rattle.common.specs.Pick.{pick}
-use Rattle.common.specs.Table.{Entry, among, find, OneOf}
+use Rattle.common.specs.Table.{Entry, among, find}
+use Rattle.common.proofs.TableLaws.{OneOf}
 use Rattle.benchfile.proofs.Tests.{never}
 
 abbrev pub Holds : List (Entry Bool) → ℕ → Type 0

@@ -1,44 +1,22 @@
--- Numbers and their bytes.
-use Prim.Native.Nat.{ℕ, zero, suc, _+_, _*_, _/_, _%_, _≤_, _<_}
+-- The two bytes of a number, and the flags of a row.
+use Prim.Native.Nat.{ℕ, zero, suc, _/_, _%_, _≤_, _<_}
 use mathlib.Core.Bool.{Bool, true, false}
 use mathlib.Core.List.{[], _∷_}
 use mathlib.Core.Path.{_≡_, refl}
 use native.Mathlib.Omega.{arith}
-use mir.Val.{boolByte}
 use lib.Dec.{leb, eqb}
-use Rattle.common.specs.Word.{lo, hi, word}
-use Rattle.benchfile.specs.Bytes.{fourAt, le4}
+use Rattle.fields.specs.Little.{joined}
 use Rattle.benchfile.specs.Row.{flagsOf}
 
--- a number comes back from its bytes
-pub word-back : (x : ℕ) → word (lo x) (hi x) ≡ x
-word-back x = omega arith
-
-pub four-back : (x : ℕ) → fourAt (le4 x) 0 ≡ x
-four-back x = omega arith
-
--- and bytes from their number
+-- two bytes come back from their number
 module _ (l h : ℕ) (b : l < 256) where
-  pub lo-back : lo (word l h) ≡ l
+  pub lo-back : joined (l ∷ h ∷ []) % 256 ≡ l
   lo-back = omega arith
 
-  pub hi-back : hi (word l h) ≡ h
+  pub hi-back : joined (l ∷ h ∷ []) / 256 ≡ h
   hi-back = omega arith
 
--- four bytes come back from their number
-pub bytes-back : (a b c d : ℕ) → a < 256 → b < 256 → c < 256 → le4 (word c d * 65536 + word a b) ≡ a ∷ b ∷ c ∷ d ∷ []
-bytes-back a b c d ha hb hc =
-    let y : word a b < 65536 = omega arith in
-    let p : (word c d * 65536 + word a b) % 65536 ≡ word a b = omega arith in
-    let q : (word c d * 65536 + word a b) / 65536 ≡ word c d = omega arith in
-    rw (p, q, lo-back a b ha, hi-back a b ha, lo-back c d hc, hi-back c d hc)
-
--- a flag comes back from 0 or 1
-pub bit-back : (x : ℕ) → x ≤ 1 → boolByte (eqb x 1) ≡ x
-bit-back zero h = refl
-bit-back (suc zero) h = refl
-bit-back (suc (suc n)) h = absurd (omega arith)
-
+-- the flags of a row
 pub flags-back : (x : ℕ) → x ≤ 3 → flagsOf (eqb (x % 2) 1) (eqb (x / 2) 1) ≡ x
 flags-back zero h = refl
 flags-back (suc zero) h = refl

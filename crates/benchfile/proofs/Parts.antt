@@ -1,13 +1,16 @@
 -- Parts of a list, and numbers past its end.
-use Prim.Native.Nat.{ℕ, zero, suc, _+_, _-_, _≤_, _<_}
+use Prim.Native.Nat.{ℕ, zero, suc, _+_, _*_, _-_, _≤_, _<_}
 use mathlib.Core.List.{List, [], _∷_, _++_}
 use mathlib.Core.Path.{_≡_, refl, ap}
 use native.Mathlib.Numerals.{add-one}
 use native.Mathlib.Omega.{arith}
-use lib.Dec.{lit<}
-use lib.ListN.{length, take, drop, length-drop, drop-of-length-le, List·getD-eq-default}
-use lib.Seq.{take-nil, take-all, take-at, drop-at, drop-cons, getD-drop}
-use Rattle.benchfile.specs.Bytes.{byteAt, twoAt, fourAt, partOf, Bytes}
+use lib.ListN.{length, drop, length-drop, drop-of-length-le, List·getD-eq-default}
+use lib.Seq.{take-nil, take-all, take-at, drop-at, drop-cons}
+use Rattle.common.specs.Word.{word}
+use Rattle.fields.specs.Little.{span, field}
+use Rattle.benchfile.specs.Bytes.{byteAt, partOf}
+use Rattle.common.specs.Width.{Byte, Bytes}
+use Rattle.common.proofs.AllLaws.{all-take, all-drop}
 
 module _ (l : List ℕ) (k n : ℕ) where
   pub part-none : length l ≤ k → partOf l k n ≡ []
@@ -21,34 +24,25 @@ module _ (l : List ℕ) (k n : ℕ) where
   pub part-to : partOf l k (k + n - k) ≡ partOf l k n
   part-to = let e : k + n - k ≡ n = omega arith in rw e
 
-module _ (l : List ℕ) (k : ℕ) where
-  pub two-none : length l ≤ k → twoAt l k ≡ 0
-  two-none h =
-      let after : length l ≤ k + 1 = omega arith in
-      simp (List·getD-eq-default l 0 h, List·getD-eq-default l 0 after)
+pub field-none : (n : ℕ) (l : List ℕ) (k : ℕ) → length l ≤ k → field n l k ≡ 0
+field-none zero l k h = refl
+field-none (suc n) l k h =
+    let next : field n l (k + 1) ≡ 0 = field-none n l (k + 1) (omega arith) in
+    rw (List·getD-eq-default l 0 h, next)
 
-module _ (l : List ℕ) (k : ℕ) where
-  pub four-none : length l ≤ k → fourAt l k ≡ 0
-  four-none h =
-      let after : length l ≤ k + 2 = omega arith in
-      rw (two-none l k h, two-none l (k + 2) after)
+-- a number of two bytes, and one of four by its halves
+pub two-word : (l : List ℕ) (k : ℕ) → word (byteAt l k) (byteAt l (k + 1)) ≡ field 2 l k
+two-word l k = omega arith
 
-take-bytes : (n : ℕ) (l : List ℕ) → Bytes l → Bytes (take n l)
-take-bytes zero l small i = lit< tt
-take-bytes (suc n) [] small i = lit< tt
-take-bytes (suc n) (x ∷ l) small zero = small 0
-take-bytes (suc n) (x ∷ l) small (suc i) = take-bytes n l (λ j. small (suc j)) i
+pub four-halves : (l : List ℕ) (k : ℕ) → field 2 l (k + 2) * 65536 + field 2 l k ≡ field 4 l k
+four-halves l k = let e : k + 1 + 1 ≡ k + 2 = omega arith in rw e (omega arith)
 
 -- a part of bytes is bytes
 pub part-bytes : (l : List ℕ) (k n : ℕ) → Bytes l → Bytes (partOf l k n)
-part-bytes l k n small = take-bytes n (drop k l) (λ i. rw getD-drop (small (k + i)))
+part-bytes l k n small = all-take Byte n (drop k l) (all-drop Byte k l small)
 
 -- the n bytes from place k on, one by one
-abbrev pub each : ℕ → List ℕ → ℕ → List ℕ
-each zero l k = []
-each (suc n) l k = byteAt l k ∷ each n l (k + 1)
-
-pub listed : (n : ℕ) (l : List ℕ) (k : ℕ) → k + n ≤ length l → partOf l k n ≡ each n l k
+pub listed : (n : ℕ) (l : List ℕ) (k : ℕ) → k + n ≤ length l → partOf l k n ≡ span n l k
 listed zero l k h = refl
 listed (suc n) l k h =
     let here : k < length l = omega arith in

@@ -8,13 +8,22 @@ use lib.ListN.{length, getD, drop, length-append, take-append-drop, drop-of-leng
 use lib.Seq.{take-at, drop-append-add, drop-drop}
 use Rattle.benchfile.specs.declared.row.Row.{Row}
 use Rattle.benchfile.specs.declared.row.Row.the-variants.{Broken}
-use Rattle.benchfile.specs.Bytes.{Bytes}
-use Rattle.benchfile.specs.Row.{formedRow, rowBytes, rowAt, bytesOf, lawful}
+use Rattle.common.specs.Width.{Bytes}
+use Rattle.benchfile.specs.Row.{formedRow, rowBytes, rowAt, bytesOf, FitRow, lawful}
 use Rattle.benchfile.specs.File.{scriptFormed}
-use Rattle.benchfile.specs.Build.{Lawful, scriptOf, rowsFrom, rowsOf}
+use Rattle.benchfile.specs.Build.{Lawful, scriptOf}
 use Rattle.benchfile.proofs.Parts.{part-bytes}
 use Rattle.benchfile.proofs.Rows.{all, past, whole, script}
-use Rattle.benchfile.proofs.RowBytes.{eight, formed-bytes, row-bytes, bytes-row}
+use Rattle.benchfile.proofs.RowBytes.{eight, formed-bytes, row-bytes, row-fits, bytes-row}
+
+-- n rows of a script from row i on
+unfoldable pub rowsFrom : List ℕ → ℕ → ℕ → List Row
+rowsFrom s zero i = []
+rowsFrom s (suc n) i = rowAt s i ∷ rowsFrom s n (suc i)
+
+-- the rows of a script
+abbrev pub rowsOf : List ℕ → List Row
+rowsOf s = rowsFrom s (length s / 8) 0
 
 pub length-script : (rs : List Row) → length (scriptOf rs) ≡ length rs * 8
 unfolding scriptOf
@@ -33,14 +42,14 @@ module _ (b s : List ℕ) (h : length b ≡ 8) where
 pub script-row : (rs : List Row) → Lawful rs → (i : ℕ) → rowAt (scriptOf rs) i ≡ getD rs i Broken
 unfolding scriptOf
 script-row [] h i = past [] i (omega arith)
-script-row (r ∷ rs) h zero = rw (row-first (bytesOf r) (scriptOf rs) (eight r), row-bytes r, h .0)
-script-row (r ∷ rs) h (suc i) = rw (row-next (bytesOf r) (scriptOf rs) (eight r) i) (script-row rs (h .1) i)
+script-row (r ∷ rs) h zero = rw (row-first (bytesOf r) (scriptOf rs) (eight r), row-bytes r (h .0), h .1)
+script-row (r ∷ rs) h (suc i) = rw (row-next (bytesOf r) (scriptOf rs) (eight r) i) (script-row rs (h .2) i)
 
 formed-rows : (rs : List Row) → Lawful rs → (i : ℕ) → i < length rs → formedRow (rowBytes (scriptOf rs) i) ≡ true
 unfolding scriptOf
 formed-rows [] h i l = absurd (omega arith)
-formed-rows (r ∷ rs) h zero l = rw (row-first (bytesOf r) (scriptOf rs) (eight r), formed-bytes r) (h .0)
-formed-rows (r ∷ rs) h (suc i) l = rw (row-next (bytesOf r) (scriptOf rs) (eight r) i) (formed-rows rs (h .1) i (omega arith))
+formed-rows (r ∷ rs) h zero l = rw (row-first (bytesOf r) (scriptOf rs) (eight r), formed-bytes r (h .0)) (h .1)
+formed-rows (r ∷ rs) h (suc i) l = rw (row-next (bytesOf r) (scriptOf rs) (eight r) i) (formed-rows rs (h .2) i (omega arith))
 
 pub script-formed : (rs : List Row) → Lawful rs → scriptFormed (scriptOf rs) ≡ true
 script-formed rs h =
@@ -57,9 +66,12 @@ module _ (s : List ℕ) (small : Bytes s) where
   written : (i : ℕ) → formedRow (rowBytes s i) ≡ true → bytesOf (rowAt s i) ≡ rowBytes s i
   written i h = bytes-row (rowBytes s i) (part-bytes s (i * 8) 8 small) h
 
+  fits : (i : ℕ) → FitRow (rowAt s i)
+  fits i = row-fits (rowBytes s i) (part-bytes s (i * 8) 8 small)
+
   -- a well-formed row is not broken, and its count is 1 up
   pub row-lawful : (i : ℕ) → formedRow (rowBytes s i) ≡ true → lawful (rowAt s i) ≡ true
-  row-lawful i h = sym (formed-bytes (rowAt s i)) ∙ ap formedRow (written i h) ∙ h
+  row-lawful i h = sym (formed-bytes (rowAt s i) (fits i)) ∙ ap formedRow (written i h) ∙ h
 
   rest-back : (n i : ℕ) → (i + n) * 8 ≡ length s → ((j : ℕ) → j < i + n → formedRow (rowBytes s j) ≡ true)
       → scriptOf (rowsFrom s n i) ≡ drop (i * 8) s
@@ -71,7 +83,7 @@ module _ (s : List ℕ) (small : Bytes s) where
   rest-lawful : (n i : ℕ) → ((j : ℕ) → j < i + n → formedRow (rowBytes s j) ≡ true) → Lawful (rowsFrom s n i)
   unfolding rowsFrom
   rest-lawful zero i h = tt
-  rest-lawful (suc n) i h = (row-lawful i (h i (omega arith)), rest-lawful n (suc i) (λ j l. h j (omega arith)))
+  rest-lawful (suc n) i h = (fits i, row-lawful i (h i (omega arith)), rest-lawful n (suc i) (λ j l. h j (omega arith)))
 
 -- a well-formed script is that of its rows, and each of them can stand in one
 module _ (s : List ℕ) (small : Bytes s) (h : scriptFormed s ≡ true) where

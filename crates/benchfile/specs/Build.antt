@@ -1,36 +1,27 @@
 -- A bench file put together from its parts (document 01, "Bench file"), and a script from its rows.
-use Prim.Native.Nat.{ℕ, zero, suc, _+_, _/_, _≤_}
+use Prim.Native.Nat.{ℕ, _+_, _≤_}
 use mathlib.Core.Bool.{true}
 use mathlib.Core.List.{List, [], _∷_, _++_}
 use mathlib.Core.Path.{_≡_}
 use lib.ListN.{length}
 use Rattle.benchfile.specs.declared.row.Row.{Row}
-use Rattle.benchfile.specs.Bytes.{le4}
-use Rattle.benchfile.specs.Row.{bytesOf, lawful, rowAt}
+use Rattle.fields.specs.Little.{le}
+use Rattle.benchfile.specs.Row.{bytesOf, FitRow, lawful}
 
 -- rows that can all stand in a script
 abbrev pub Lawful : List Row → Type 0
 Lawful [] = Unit
-Lawful (r ∷ rs) = (lawful r ≡ true) × Lawful rs
+Lawful (r ∷ rs) = FitRow r × (lawful r ≡ true) × Lawful rs
 
 -- the bytes of a script, row after row
 unfoldable pub scriptOf : List Row → List ℕ
 scriptOf [] = []
 scriptOf (r ∷ rs) = bytesOf r ++ scriptOf rs
 
--- n rows of a script from row i on
-unfoldable pub rowsFrom : List ℕ → ℕ → ℕ → List Row
-rowsFrom s zero i = []
-rowsFrom s (suc n) i = rowAt s i ∷ rowsFrom s n (suc i)
-
--- the rows of a script
-abbrev pub rowsOf : List ℕ → List Row
-rowsOf s = rowsFrom s (length s / 8) 0
-
 -- the contents of four bodies of these lengths
 unfoldable pub contentsOf : ℕ → ℕ → ℕ → ℕ → List ℕ
 contentsOf a b c d =
-    le4 32 ++ le4 a ++ le4 (32 + a) ++ le4 b ++ le4 (32 + a + b) ++ le4 c ++ le4 (32 + a + b + c) ++ le4 d
+    le 4 32 ++ le 4 a ++ le 4 (32 + a) ++ le 4 b ++ le 4 (32 + a + b) ++ le 4 c ++ le 4 (32 + a + b + c) ++ le 4 d
 
 -- contents, settings, RAM fill, ROM, script
 unfoldable pub build : List ℕ → List ℕ → List ℕ → List ℕ → List ℕ

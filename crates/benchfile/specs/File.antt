@@ -5,16 +5,17 @@ use mathlib.Core.List.{List, []}
 use lib.ListN.{length}
 use lib.Dec.{leb, eqb}
 use Rattle.common.specs.Pick.{pick}
-use Rattle.benchfile.specs.Bytes.{fourAt, partOf}
+use Rattle.fields.specs.Little.{field}
+use Rattle.benchfile.specs.Bytes.{partOf}
 use Rattle.benchfile.specs.Row.{formedRow, rowBytes}
 
 -- contents first, a row of 8 bytes for each section: where it starts (4 bytes)
 unfoldable pub startOf : List ℕ → ℕ → ℕ
-startOf f k = fourAt f (k * 8)
+startOf f k = field 4 f (k * 8)
 
 -- and its length (4)
 unfoldable pub sizeOf : List ℕ → ℕ → ℕ
-sizeOf f k = fourAt f (k * 8 + 4)
+sizeOf f k = field 4 f (k * 8 + 4)
 
 -- the place behind its last byte
 abbrev pub endOf : List ℕ → ℕ → ℕ

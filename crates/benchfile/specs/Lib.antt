@@ -1,3 +1,4 @@
+-- Bench files: bytes, rows, the file and its sections, and how one is put together.
 pub mod Bytes
 pub mod Row
 pub mod File

@@ -6,8 +6,10 @@ use lib.ListN.{length, drop, replicate}
 use lib.Dec.{leb, eqb}
 use mir.Val.{boolByte}
 use Rattle.common.specs.Pick.{pick}
+use Rattle.common.specs.Width.{Word}
 use Rattle.common.specs.Table.{Entry, find, at}
-use Rattle.benchfile.specs.Bytes.{byteAt, twoAt, partOf, le2}
+use Rattle.fields.specs.Little.{le, field}
+use Rattle.benchfile.specs.Bytes.{byteAt, partOf}
 use Rattle.benchfile.specs.declared.row.Row.{Row}
 use Rattle.benchfile.specs.declared.row.Row.the-variants.{Cycles, Read, Write, Pad, Plug, Answer, Back, Broken}
 
@@ -23,13 +25,13 @@ zeros b k = allZero (drop k b)
 -- what each kind asks: counts 1 up, flags at most 3, plug's value 0 or 1, answer's first byte 0, other bytes zero
 abbrev pub formTable : List ℕ → List (Entry Bool)
 formTable b =
-    at 1 (leb 1 (twoAt b 1) && leb (byteAt b 4) 3 && zeros b 5)
+    at 1 (leb 1 (field 2 b 1) && leb (byteAt b 4) 3 && zeros b 5)
     ∷ at 2 (zeros b 4)
     ∷ at 3 (zeros b 5)
     ∷ at 4 (zeros b 4)
     ∷ at 5 (leb (byteAt b 2) 1 && zeros b 3)
     ∷ at 6 (eqb (byteAt b 1) 0 && zeros b 5)
-    ∷ at 7 (leb 1 (twoAt b 1) && zeros b 3)
+    ∷ at 7 (leb 1 (field 2 b 1) && zeros b 3)
     ∷ []
 
 -- a row of 8 bytes that keeps the form of its kind; there is no other kind
@@ -40,13 +42,13 @@ formedRow b = eqb (length b) 8 && find (formTable b) (byteAt b 0) false
 -- pad (port, word), plug (port, value), answer (0, address, byte), back (count)
 abbrev pub fieldTable : List ℕ → List (Entry Row)
 fieldTable b =
-    at 1 (Cycles (twoAt b 1) (byteAt b 3) (eqb (byteAt b 4 % 2) 1) (eqb (byteAt b 4 / 2) 1))
-    ∷ at 2 (Read (byteAt b 1) (twoAt b 2))
-    ∷ at 3 (Write (byteAt b 1) (twoAt b 2) (byteAt b 4))
-    ∷ at 4 (Pad (byteAt b 1) (twoAt b 2))
+    at 1 (Cycles (field 2 b 1) (byteAt b 3) (eqb (byteAt b 4 % 2) 1) (eqb (byteAt b 4 / 2) 1))
+    ∷ at 2 (Read (byteAt b 1) (field 2 b 2))
+    ∷ at 3 (Write (byteAt b 1) (field 2 b 2) (byteAt b 4))
+    ∷ at 4 (Pad (byteAt b 1) (field 2 b 2))
     ∷ at 5 (Plug (byteAt b 1) (eqb (byteAt b 2) 1))
-    ∷ at 6 (Answer (twoAt b 2) (byteAt b 4))
-    ∷ at 7 (Back (twoAt b 1))
+    ∷ at 6 (Answer (field 2 b 2) (byteAt b 4))
+    ∷ at 7 (Back (field 2 b 1))
     ∷ []
 
 -- the row that 8 bytes say, if they keep their form
@@ -71,14 +73,25 @@ flagsOf due timer = boolByte due + 2 * boolByte timer
 
 -- the 8 bytes of a row
 unfoldable pub bytesOf : Row → List ℕ
-bytesOf (Cycles n event due timer) = 1 ∷ le2 n ++ event ∷ flagsOf due timer ∷ replicate 3 0
-bytesOf (Read bank a) = 2 ∷ bank ∷ le2 a ++ replicate 4 0
-bytesOf (Write bank a x) = 3 ∷ bank ∷ le2 a ++ x ∷ replicate 3 0
-bytesOf (Pad port w) = 4 ∷ port ∷ le2 w ++ replicate 4 0
+bytesOf (Cycles n event due timer) = 1 ∷ le 2 n ++ event ∷ flagsOf due timer ∷ replicate 3 0
+bytesOf (Read bank a) = 2 ∷ bank ∷ le 2 a ++ replicate 4 0
+bytesOf (Write bank a x) = 3 ∷ bank ∷ le 2 a ++ x ∷ replicate 3 0
+bytesOf (Pad port w) = 4 ∷ port ∷ le 2 w ++ replicate 4 0
 bytesOf (Plug port on) = 5 ∷ port ∷ boolByte on ∷ replicate 5 0
-bytesOf (Answer a x) = 6 ∷ 0 ∷ le2 a ++ x ∷ replicate 3 0
-bytesOf (Back n) = 7 ∷ le2 n ++ replicate 5 0
+bytesOf (Answer a x) = 6 ∷ 0 ∷ le 2 a ++ x ∷ replicate 3 0
+bytesOf (Back n) = 7 ∷ le 2 n ++ replicate 5 0
 bytesOf Broken = replicate 8 0
+
+-- the words of a row, each in its two bytes
+abbrev pub FitRow : Row → Type 0
+FitRow (Cycles n event due timer) = Word n
+FitRow (Read bank a) = Word a
+FitRow (Write bank a x) = Word a
+FitRow (Pad port w) = Word w
+FitRow (Plug port on) = Unit {0}
+FitRow (Answer a x) = Word a
+FitRow (Back n) = Word n
+FitRow Broken = Unit {0}
 
 -- a row that can stand in a script: counts are 1 up
 abbrev pub lawful : Row → Bool

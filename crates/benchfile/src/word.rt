@@ -1,7 +1,8 @@
 // Little-endian numbers at a place of a slice. A byte past the end reads 0.
 ghost use mathlib.Core.Path.{_≡_};
 ghost use denote.Ref.{now};
-ghost use Rattle.benchfile.specs.Bytes.{byteAt, twoAt, fourAt};
+ghost use Rattle.benchfile.specs.Bytes.{byteAt};
+ghost use Rattle.fields.specs.Little.{field};
 use common::u16_split;
 
 pub fn byte(s: &[u8], at: usize) -> u8
@@ -11,7 +12,7 @@ pub fn byte(s: &[u8], at: usize) -> u8
 }
 
 pub fn two(s: &[u8], at: usize) -> u16
-    ensures { λ r. ⌜ r ≡ twoAt (now (s .entry)) at ⌝ }
+    ensures { λ r. ⌜ r ≡ field 2 (now (s .entry)) at ⌝ }
 {
     if s.len() <= at {
         return 0;
@@ -22,7 +23,7 @@ pub fn two(s: &[u8], at: usize) -> u16
 }
 
 pub fn four(s: &[u8], at: usize) -> u32
-    ensures { λ r. ⌜ r ≡ fourAt (now (s .entry)) at ⌝ }
+    ensures { λ r. ⌜ r ≡ field 4 (now (s .entry)) at ⌝ }
 {
     if s.len() <= at {
         return 0;

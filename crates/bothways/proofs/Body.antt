@@ -1,12 +1,12 @@
 -- A line of bytes of a fill or a ROM: each comes back, and adds itself.
-use Prim.Native.Nat.{ℕ, suc, _/_, _%_, _≤_, _<_}
+use Prim.Native.Nat.{ℕ, suc, _+_, _/_, _%_, _≤_, _<_}
 use mathlib.Core.Bool.{Bool, true, false}
 use mathlib.Core.List.{List, [], _∷_, _++_}
 use mathlib.Core.Path.{_≡_, refl, ap, _∙_}
 use native.Mathlib.Omega.{arith}
 use borrow.Author.Tests.{le-leb}
 use Rattle.append.specs.Sheet.{Sheet, puts}
-use Rattle.benchfile.specs.Bytes.{Bytes}
+use Rattle.common.specs.Width.{Bytes}
 use Rattle.reader.specs.declared.reader.Reader.{Reader}
 use Rattle.reader.specs.Letter.{signOf}
 use Rattle.reader.specs.Word.{word, blankWord, dollarOf, worthOf}
@@ -176,16 +176,13 @@ abbrev pub lastOf : ℕ → List ℕ → ℕ
 lastOf x [] = x
 lastOf x (z ∷ l) = lastOf z l
 
-tail-bytes : (x : ℕ) (l : List ℕ) → Bytes (x ∷ l) → Bytes l
-tail-bytes x l h i = h (suc i)
-
 -- the bytes behind x, and the line's end
 pub bytes-run : (file : List ℕ) (b : Section) (i : Bool) (f o s : Sheet) (x y : ℕ) (l : List ℕ) → Bytes (x ∷ l)
     → runs file (made (byteRead b i x y) f o s) (bytesText l ++ (10 ∷ [])) ≡ gained b (lineRead b (lastOf x l)) f o s (x ∷ l)
 unfolding hexes runs
 bytes-run file b i f o s x y [] h =
-    one file b f o s (byteRead b i x y) 10 ∙ ap (added file f o s) (end x y (h 0) b i) ∙ gain-line file b f o s x
+    one file b f o s (byteRead b i x y) 10 ∙ ap (added file f o s) (end x y (h .0) b i) ∙ gain-line file b f o s x
 bytes-run file b i f o s x y (z ∷ l) h =
-    next-byte file b i f o s x y z (h 0) (h 1) (bytesText l ++ (10 ∷ []))
-    ∙ bytes-run file b false (puts f (toFront b (x ∷ []))) (puts o (toRom b (x ∷ []))) s z x l (tail-bytes x (z ∷ l) h)
+    next-byte file b i f o s x y z (h .0) (h .1 .0) (bytesText l ++ (10 ∷ []))
+    ∙ bytes-run file b false (puts f (toFront b (x ∷ []))) (puts o (toRom b (x ∷ []))) s z x l (h .1)
     ∙ gain-gain b (lineRead b (lastOf z l)) f o s x (z ∷ l)

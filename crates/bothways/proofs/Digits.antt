@@ -7,7 +7,7 @@ use native.Mathlib.Omega.{arith}
 use lib.Dec.{ltb}
 use borrow.Author.Tests.{lt-ltb, ltb-true, ltb-false, ne-eqb}
 use Rattle.common.specs.Pick.{pick}
-use Rattle.common.specs.Range.{inside, above}
+use Rattle.common.proofs.RangeLaws.{inside, above}
 use Rattle.reader.specs.declared.draft.Draft.{Draft}
 use Rattle.reader.specs.Letter.{signOf, digitOf}
 use Rattle.reader.specs.Word.{word, letterOf}

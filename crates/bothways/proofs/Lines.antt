@@ -9,7 +9,8 @@ use lib.Seq.{take-add, drop-drop, take-all}
 use Rattle.append.specs.Texts.{each}
 use Rattle.append.specs.Sheet.{Sheet, puts}
 use Rattle.append.proofs.Laws.{puts-append}
-use Rattle.benchfile.specs.Bytes.{partOf, Bytes}
+use Rattle.benchfile.specs.Bytes.{partOf}
+use Rattle.common.specs.Width.{Bytes}
 use Rattle.benchfile.specs.Row.{formedRow, rowBytes}
 use Rattle.benchfile.specs.File.{scriptFormed}
 use Rattle.benchfile.proofs.Parts.{part-bytes}
@@ -91,7 +92,7 @@ module _ (file : List ℕ) (b : Section) (f o s : Sheet) where
         (puts f (toFront b a)) (puts o (toRom b a)) s (head b) (letters b ++ (32 ∷ 36 ∷ glyphOf (z / 16) ∷ glyphOf z ∷ []))
         (ap (quietly (before (phaseOf b a) (r .kind) (r .b1) (r .b2) (r .b3) (r .b4) 0))
         (sym (lettered b (32 ∷ 36 ∷ glyphOf (z / 16) ∷ glyphOf z ∷ [])))
-        ∙ opening (r .kind) (r .b1) (r .b2) (r .b3) (r .b4) z (small 0) b a)
+        ∙ opening (r .kind) (r .b1) (r .b2) (r .b3) (r .b4) z (small .0) b a)
         ∙ nothing file b (puts f (toFront b a)) (puts o (toRom b a)) s z 0 true
 
     ran : runs file k (lineText (wordOf b) (z ∷ l)) ≡ gained b (lineRead b (lastOf z l)) (puts f (toFront b a)) (puts o (toRom b a)) s (z ∷ l)

@@ -7,7 +7,8 @@ use native.Mathlib.Omega.{arith}
 use lib.ListN.{length}
 use Rattle.append.specs.Texts.{each}
 use Rattle.append.specs.Sheet.{Sheet, puts}
-use Rattle.benchfile.specs.Bytes.{byteAt, partOf, Bytes}
+use Rattle.benchfile.specs.Bytes.{byteAt, partOf}
+use Rattle.common.specs.Width.{Bytes}
 use Rattle.benchfile.specs.Row.{formedRow, rowBytes}
 use Rattle.benchfile.specs.File.{scriptFormed}
 use Rattle.benchfile.proofs.Parts.{part-bytes}
@@ -38,16 +39,16 @@ bytes-nameless b i x y [] h = unnamed-next (byteRead b i x y) 10 [] refl (unname
 bytes-nameless b i x y (z ∷ l) h =
     let t : List ℕ = bytesText l ++ (10 ∷ []) in
     let two : List ℕ = glyphOf (z / 16) ∷ glyphOf z ∷ [] in
-    let d = digits b x z (h 1) in
+    let d = digits b x z (h .1 .0) in
     let after : reads (dollarRead b x) two ≡ byteRead b false z x = quietly-reads (byteRead b false z x) refl (dollarRead b x) two d in
     let rest : Unnamed (reads (dollarRead b x) two) t =
-    subst (λ (r : Reader). Unnamed r t) (sym after) (bytes-nameless b false z x l (λ j. h (suc j))) in
+    subst (λ (r : Reader). Unnamed r t) (sym after) (bytes-nameless b false z x l (h .1)) in
     let number : Unnamed (dollarRead b x) (two ++ t) =
     unnamed-append (dollarRead b x) two t (quietly-unnamed (byteRead b false z x) refl (dollarRead b x) two d) rest in
     let sign : Unnamed (spacedRead b x) (36 ∷ (two ++ t)) =
     unnamed-next (spacedRead b x) 36 (two ++ t) refl (subst (λ (r : Reader). Unnamed r (two ++ t)) (sym (dollar b x)) number) in
     unnamed-next (byteRead b i x y) 32 (36 ∷ (two ++ t)) refl
-    (subst (λ (r : Reader). Unnamed r (36 ∷ (two ++ t))) (sym (space x y (h 0) b i)) sign)
+    (subst (λ (r : Reader). Unnamed r (36 ∷ (two ++ t))) (sym (space x y (h .0) b i)) sign)
 
 module _ (file : List ℕ) (b : Section) (f o s : Sheet) where
   -- a line of bytes
@@ -62,7 +63,7 @@ module _ (file : List ℕ) (b : Section) (f o s : Sheet) where
       let e : quietly (before (phaseOf b a) (r .kind) (r .b1) (r .b2) (r .b3) (r .b4) 0) (head b ∷ u) ≡ byteRead b true z 0 =
       ap (quietly (before (phaseOf b a) (r .kind) (r .b1) (r .b2) (r .b3) (r .b4) 0))
       (sym (lettered b (32 ∷ 36 ∷ glyphOf (z / 16) ∷ glyphOf z ∷ [])))
-      ∙ opening (r .kind) (r .b1) (r .b2) (r .b3) (r .b4) z (small 0) b a in
+      ∙ opening (r .kind) (r .b1) (r .b2) (r .b3) (r .b4) z (small .0) b a in
       let first : Unnamed was (head b ∷ u) =
       line-unnamed q refl (phaseOf b a) (r .kind) (r .b1) (r .b2) (r .b3) (r .b4) (r .emit) (r .fine) (head b ∷ u) e in
       let after : reads was (head b ∷ u) ≡ byteRead b true z 0 =

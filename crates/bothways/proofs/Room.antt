@@ -7,9 +7,12 @@ use native.Mathlib.Omega.{arith}
 use lib.Dec.{eqb}
 use lib.ListN.{length, take, drop, length-append}
 use Rattle.append.specs.Texts.{each}
+use Rattle.common.proofs.AllLaws.{byte-fits}
 use Rattle.common.specs.Pick.{pick}
 use Rattle.common.specs.Table.{Entry, among, find}
-use Rattle.benchfile.specs.Bytes.{byteAt, twoAt, partOf, Bytes}
+use Rattle.benchfile.specs.Bytes.{byteAt, partOf}
+use Rattle.common.specs.Width.{Bytes}
+use Rattle.fields.specs.Little.{field}
 use Rattle.benchfile.specs.Row.{rowBytes}
 use Rattle.benchfile.proofs.Parts.{part-bytes}
 use Rattle.append.proofs.Decimal.{short}
@@ -70,18 +73,18 @@ short-found (e ∷ t) k h = either 36 (among (e .keys) k) (e .gives) (find t k [
 row-short : (b : List ℕ) → Bytes b → Short 36 (rowText b)
 unfolding rowText
 row-short b h =
-    let h₁ = h 1 in
-    let h₂ = h 2 in
-    let h₃ = h 3 in
+    let h₁ = byte-fits b 1 h in
+    let h₂ = byte-fits b 2 h in
+    let h₃ = byte-fits b 3 h in
     short-found (texts b) (byteAt b 0) (
-      cycles-short (twoAt b 1) (byteAt b 3) (byteAt b 4) (omega arith) (omega arith),
+      cycles-short (field 2 b 1) (byteAt b 3) (byteAt b 4) (omega arith) (omega arith),
       (
         omega arith,
         (
           omega arith,
           (
             pad-short (byteAt b 1) (byteAt b 2) (byteAt b 3) (omega arith),
-            (plug-short (byteAt b 1) (byteAt b 2) (omega arith), (omega arith, (back-short (twoAt b 1) (omega arith), tt))),
+            (plug-short (byteAt b 1) (byteAt b 2) (omega arith), (omega arith, (back-short (field 2 b 1) (omega arith), tt))),
           ),
         ),
       ),

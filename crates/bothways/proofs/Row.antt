@@ -9,8 +9,11 @@ use lib.ListN.{length}
 use lib.Seq.{take-all}
 use lib.Dec.{leb, eqb}
 use borrow.Author.Tests.{leb-true, eqb-true}
+use Rattle.common.proofs.AllLaws.{byte-fits}
 use Rattle.common.specs.Table.{find}
-use Rattle.benchfile.specs.Bytes.{byteAt, twoAt, Bytes}
+use Rattle.benchfile.specs.Bytes.{byteAt}
+use Rattle.common.specs.Width.{Bytes}
+use Rattle.fields.specs.Little.{span, field}
 use Rattle.benchfile.specs.declared.row.Row.{Row}
 use Rattle.benchfile.specs.declared.row.Row.the-variants.{Cycles, Read, Write, Pad, Plug, Answer, Back, Broken}
 use Rattle.benchfile.specs.Row.{allZero, zeros, formTable, formedRow, rowOf, bytesOf}
@@ -19,7 +22,7 @@ use Rattle.reader.specs.Draft.{draft}
 use Rattle.assembler.specs.Desk.{scriptOf}
 use Rattle.benchfile.proofs.Tests.{both}
 use Rattle.benchfile.proofs.Found.{Holds, found}
-use Rattle.benchfile.proofs.Parts.{each, listed}
+use Rattle.benchfile.proofs.Parts.{listed}
 use Rattle.benchfile.proofs.Numbers.{lo-back, hi-back}
 use Rattle.bothways.proofs.Quietly.{quietly}
 use Rattle.lister.specs.Row.{rowText}
@@ -54,10 +57,10 @@ module _ (k x₁ x₂ x₃ x₄ : ℕ) (p : ℕ) (o : Open p) where
     of-kind : Holds (formTable given) b₀ → quietly (before p k x₁ x₂ x₃ x₄ 0) (rowText given) ≡ before 4 b₀ b₁ b₂ b₃ b₄ 3
     unfolding rowText
     of-kind (inl (q, h)) =
-        let r = both (leb 1 (twoAt given 1) && leb b₄ 3) (zeros given 5) h in
-        let s = both (leb 1 (twoAt given 1)) (leb b₄ 3) (r .0) in
+        let r = both (leb 1 (field 2 given 1) && leb b₄ 3) (zeros given 5) h in
+        let s = both (leb 1 (field 2 given 1)) (leb b₄ 3) (r .0) in
         let z : b₀ ≡ 1 = q in
-        let c = cycles.cycles-back (twoAt given 1) b₃ b₄ (leb-true 1 (twoAt given 1) (s .0)) (omega arith) l₃ (flags-of b₄ (leb-true b₄ 3 (s .1))) k x₁ x₂ x₃ x₄ p o in
+        let c = cycles.cycles-back (field 2 given 1) b₃ b₄ (leb-true 1 (field 2 given 1) (s .0)) (omega arith) l₃ (flags-of b₄ (leb-true b₄ 3 (s .1))) k x₁ x₂ x₃ x₄ p o in
         rw z (c ∙ rw (lo-back b₁ b₂ l₁, hi-back b₁ b₂ l₁))
     of-kind (inr (inl (q, h))) =
         let z : b₀ ≡ 2 = q in
@@ -84,11 +87,11 @@ module _ (k x₁ x₂ x₃ x₄ : ℕ) (p : ℕ) (o : Open p) where
         let y : b₁ ≡ 0 = eqb-true b₁ 0 (r .0) in
         rw (z, y) (answer-back 0 b₂ b₃ (omega arith) l₂ l₃ b₄ k x₁ x₂ x₃ x₄ l₄ p o)
     of-kind (inr (inr (inr (inr (inr (inr (inl (q, h)))))))) =
-        let r = both (leb 1 (twoAt given 1)) (zeros given 3) h in
+        let r = both (leb 1 (field 2 given 1)) (zeros given 3) h in
         let z : b₀ ≡ 7 = q in
         let y : b₃ ≡ 0 = head b₃ (b₄ ∷ b₅ ∷ b₆ ∷ b₇ ∷ []) (r .1) in
         let w : b₄ ≡ 0 = second b₃ b₄ (b₅ ∷ b₆ ∷ b₇ ∷ []) (r .1) in
-        let c = back-back (twoAt given 1) (leb-true 1 (twoAt given 1) (r .0)) (omega arith) k x₁ x₂ x₃ x₄ p o in
+        let c = back-back (field 2 given 1) (leb-true 1 (field 2 given 1) (r .0)) (omega arith) k x₁ x₂ x₃ x₄ p o in
         rw (z, y, w) (c ∙ rw (lo-back b₁ b₂ l₁, hi-back b₁ b₂ l₁))
     of-kind (inr (inr (inr (inr (inr (inr (inr n))))))) = absurd n
 
@@ -99,10 +102,10 @@ module _ (k x₁ x₂ x₃ x₄ : ℕ) (p : ℕ) (o : Open p) where
   row-quiet b small h =
       let q = both (eqb (length b) 8) (find (formTable b) (byteAt b 0) false) h in
       let n : length b ≡ 8 = eqb-true (length b) 8 (q .0) in
-      let w : each 8 b 0 ≡ b = sym (listed 8 b 0 (omega arith)) ∙ take-all 8 b (omega arith) in
+      let w : span 8 b 0 ≡ b = sym (listed 8 b 0 (omega arith)) ∙ take-all 8 b (omega arith) in
       let kept : Holds (formTable b) (byteAt b 0) = found (formTable b) (byteAt b 0) (q .1) in
-      let spread : Holds (formTable (each 8 b 0)) (byteAt b 0) = subst (λ (l : List ℕ). Holds (formTable l) (byteAt l 0)) (sym w) kept in
-      let back = of-kind (byteAt b 0) (byteAt b 1) (byteAt b 2) (byteAt b 3) (byteAt b 4) (byteAt b 5) (byteAt b 6) (byteAt b 7) (small 1) (small 2) (small 3) (small 4) spread in
+      let spread : Holds (formTable (span 8 b 0)) (byteAt b 0) = subst (λ (l : List ℕ). Holds (formTable l) (byteAt l 0)) (sym w) kept in
+      let back = of-kind (byteAt b 0) (byteAt b 1) (byteAt b 2) (byteAt b 3) (byteAt b 4) (byteAt b 5) (byteAt b 6) (byteAt b 7) (byte-fits b 1 small) (byte-fits b 2 small) (byte-fits b 3 small) (byte-fits b 4 small) spread in
       subst (λ (l : List ℕ). quietly (before p k x₁ x₂ x₃ x₄ 0) (rowText l) ≡ before 4 (byteAt b 0) (byteAt b 1) (byteAt b 2) (byteAt b 3) (byteAt b 4) 3) w back
 
 -- the bytes behind the fields of a row are zero

@@ -6,8 +6,11 @@ use mathlib.Core.Path.{_≡_, sym, subst, _∙_}
 use native.Mathlib.Omega.{arith}
 use lib.ListN.{length}
 use lib.Seq.{take-all}
+use Rattle.common.proofs.AllLaws.{byte-fits}
 use Rattle.append.specs.Sheet.{Sheet, puts}
-use Rattle.benchfile.specs.Bytes.{byteAt, twoAt, Bytes}
+use Rattle.benchfile.specs.Bytes.{byteAt}
+use Rattle.common.specs.Width.{Bytes}
+use Rattle.fields.specs.Little.{field}
 use Rattle.benchfile.specs.File.{scriptFormed}
 use Rattle.benchfile.proofs.Numbers.{lo-back, hi-back}
 use Rattle.benchfile.proofs.Parts.{listed}
@@ -45,18 +48,18 @@ module _ (file : List ℕ) (f o s : Sheet) (k : State) where
 module _ (file a b c d : List ℕ) (sa : Bytes a) (sb : Bytes b) (sc : Bytes c) (sd : Bytes d) (two : length a ≡ 2) (least : 1 ≤ length b)
     (formed : scriptFormed d ≡ true) where
   abbrev pub number : ℕ
-  number = twoAt a 0
+  number = field 2 a 0
 
   small : number < 65536
   small =
-      let l : byteAt a 0 < 256 = sa 0 in
-      let h : byteAt a 1 < 256 = sa 1 in
+      let l : byteAt a 0 < 256 = byte-fits a 0 sa in
+      let h : byteAt a 1 < 256 = byte-fits a 1 sa in
       omega arith
 
   pair : number % 256 ∷ number / 256 ∷ [] ≡ a
   pair =
       let e : byteAt a 0 ∷ byteAt a 1 ∷ [] ≡ a = sym (listed 2 a 0 (omega arith)) ∙ take-all 2 a (omega arith) in
-      rw (lo-back (byteAt a 0) (byteAt a 1) (sa 0), hi-back (byteAt a 0) (byteAt a 1) (sa 0)) e
+      rw (lo-back (byteAt a 0) (byteAt a 1) (byte-fits a 0 sa), hi-back (byteAt a 0) (byteAt a 1) (byte-fits a 0 sa)) e
 
   abbrev pub text : List ℕ
   text = settingsText number ++ (linesText fillWord b ++ (linesText romWord c ++ scriptText d))

@@ -1,12 +1,12 @@
 -- The sections of a sound file: settings, RAM fill, ROM image, script.
-use Prim.Native.Nat.{ℕ, _≤_}
+use Prim.Native.Nat.{ℕ, _+_, _≤_}
 use mathlib.Core.Bool.{Bool, true, false}
 use mathlib.Core.List.{List, [], _++_}
 use mathlib.Core.Path.{_≡_, sym, ap, subst, _∙_}
-use lib.Dec.{eqb, lit<}
+use lib.Dec.{eqb}
 use lib.ListN.{length}
 use Rattle.common.specs.Pick.{pick}
-use Rattle.benchfile.specs.Bytes.{Bytes}
+use Rattle.common.specs.Width.{Bytes}
 use Rattle.benchfile.specs.File.{startOf, sizeOf, bodyOf, scriptFormed, fileCheck, sectionNumber, sectionOf}
 use Rattle.benchfile.specs.Build.{build, Bench}
 use Rattle.benchfile.proofs.Parts.{part-bytes}
@@ -20,7 +20,7 @@ use Rattle.bothways.proofs.Bound.{bound-build}
 picked : (f : List ℕ) (k : ℕ) → Bytes f → (x : Bool) → Bytes (pick x (bodyOf f k) [])
 unfolding bodyOf
 picked f k small true = part-bytes f (startOf f k) (sizeOf f k) small
-picked f k small false = λ i. lit< tt
+picked f k small false = tt {0}
 
 -- what the sections of a sound file are
 module _ (f : List ℕ) (small : Bytes f) (sound : fileCheck f ≡ 0) where

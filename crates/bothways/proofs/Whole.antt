@@ -6,7 +6,9 @@ use native.Mathlib.Omega.{arith}
 use lib.ListN.{length, replicate, length-append}
 use Rattle.append.specs.Sheet.{Sheet, sheet, puts, shownOf}
 use Rattle.append.proofs.Laws.{puts-append, puts-room}
-use Rattle.benchfile.specs.Bytes.{twoAt, Bytes}
+use Rattle.common.proofs.AllLaws.{byte-fits}
+use Rattle.common.specs.Width.{Bytes}
+use Rattle.fields.specs.Little.{field}
 use Rattle.benchfile.specs.File.{fileCheck}
 use Rattle.reader.specs.Reader.{startOf, unnamedOf}
 use Rattle.lister.specs.Body.{fillWord, romWord}
@@ -39,9 +41,9 @@ module _ (f : List ℕ) (small : Bytes f) (sound : fileCheck f ≡ 0) where
   text-short =
       let l = length-build settings ram image script in
       let h = of.bytes f small sound 0 in
-      let h₀ = h 0 in
-      let h₁ = h 1 in
-      let a = settings-short (twoAt settings 0) (omega arith) in
+      let h₀ = byte-fits settings 0 h in
+      let h₁ = byte-fits settings 1 h in
+      let a = settings-short (field 2 settings 0) (omega arith) in
       let b = lines-short fillWord (omega arith) ram in
       let c = lines-short romWord (omega arith) image in
       let d = script-short script (of.bytes f small sound 3) in

@@ -10,8 +10,7 @@ use Rattle.common.proofs.FillLaws.{Grows, grows-none, grows-trans, grows-more, 
 use Rattle.registers.specs.declared.Io.{Io}
 use Rattle.registers.specs.declared.channel.DmaChannel.{DmaChannel}
 use Rattle.registers.specs.declared.pads.Pads.{Pads}
-use Rattle.registers.specs.Ranges.{Undisturbed}
-use Rattle.registers.proofs.PadsLaws.{read-leaves, write-leaves}
+use Rattle.registers.proofs.PadsLaws.{Undisturbed, read-leaves, write-leaves}
 use Rattle.wram.specs.Banks.{Banks, banks, peeked}
 use Rattle.wram.specs.Olds.{noOld, noOlds, putBack, backFrom}
 use Rattle.wram.proofs.KeepLaws.{GrowsOlds, keep-grows}

@@ -5,35 +5,47 @@ use mathlib.Core.Path.{_∙_}
 use native.Mathlib.Omega.{arith}
 use lib.Dec.{ltb}
 use lib.ListN.{length, length-set}
-use Rattle.common.proofs.AllLaws.{all-set, all-getD}
+use Rattle.common.specs.All.{AllOf}
+use Rattle.common.proofs.AllLaws.{all-set, all-getD, byte-fits}
 use Rattle.common.proofs.TableLaws.{pick-elim}
 use Rattle.cartridge.specs.Cartridge.{romOffset, romByte}
 use Rattle.registers.proofs.FitGroups.{fit-wmadd, fit-enables, fit-channels, fit-openbus}
 use Rattle.registers.proofs.FitKept.{fit-write, fit-read-byte, fit-read}
 use Rattle.registers.proofs.FitParts.{fit-stepped}
 use Rattle.registers.specs.Channel.{noChannel}
-use Rattle.registers.specs.Fit.{Byte, Word, FitChannel, FitIo}
+use Rattle.registers.specs.Fit.{FitChannel, FitIo}
+use Rattle.common.specs.Width.{Byte, Word, Bytes}
 use Rattle.registers.specs.declared.Io.{Io}
 use Rattle.registers.specs.declared.channel.DmaChannel.{DmaChannel}
 use Rattle.registers.specs.declared.read.IoRead.{IoRead}
 use Rattle.registers.specs.declared.wm_address.WmAddBank.{WmAddBank}
 use Rattle.registers.specs.declared.wm_address.WmAddBank.the-variants as wm
-use Rattle.wram.proofs.FitLaws.{byte-fits, peeked-fits, poked-fits, kept-fits}
-use Rattle.wram.specs.Ranges.{FitBytes, FitPlace, OldsOk}
+use Rattle.wram.proofs.FitLaws.{peeked-fits, poked-fits, kept-fits, FitBanks, FitPlace}
+use Rattle.wram.specs.Ranges.{FitOld, OldsOk}
 use Rattle.bus.proofs.Adds.{Recorded}
 use Rattle.bus.specs.Access.{opened, dataStepped, ioWritten, registerRead}
-use Rattle.bus.specs.Fit.{FitWorld, FitReading}
 use Rattle.bus.specs.Route.{routeOf, wmPlace, placeOf}
 use Rattle.bus.specs.View.{channelOf, withChannel, mdmaenOf, withMdmaen, hdmaenOf, withCore}
-use Rattle.bus.specs.World.{World, world, placeAt, readAt, writeAt}
+use Rattle.bus.specs.World.{World, Reading, world, placeAt, readAt, writeAt}
 use Rattle.bus.specs.declared.route.Route.{Route}
 use Rattle.bus.specs.declared.route.Route.the-variants.{Bank7E, Bank7F, Data, Registers, Cartridge}
+
+-- registers, bytes overwritten and both banks are in their widths
+pub record FitWorld (w : World) : Type 0 where
+  pub io : FitIo (w .core .io)
+  pub olds : AllOf FitOld (w .core .olds .items)
+  pub ram : FitBanks (w .ram)
+
+-- and so is the byte read
+pub record FitReading (r : Reading) : Type 0 where
+  pub world : FitWorld (r .world)
+  pub byte : Byte (r .byte)
 
 wm-fits : (b : WmAddBank) {a : ℕ} → Word a → FitPlace (wmPlace b a)
 wm-fits wm.Bank7E h = h
 wm-fits wm.Bank7F h = h
 
-rom-fits : (rom : List ℕ) (b a : ℕ) {d : ℕ} → FitBytes rom → Byte d → Byte (romByte rom b a d)
+rom-fits : (rom : List ℕ) (b a : ℕ) {d : ℕ} → Bytes rom → Byte d → Byte (romByte rom b a d)
 rom-fits rom b a f h = pick-elim Byte (ltb a 0x8000) h (pick-elim Byte (ltb (romOffset b a) (length rom)) (byte-fits rom (romOffset b a) f) h)
 
 record FitRead (r : IoRead) : Type 0 where
@@ -60,7 +72,7 @@ module _ {io : Io} (f : FitIo io) where
   written-fits Registers a {v} h = fit-write a v f h
   written-fits Cartridge a h = f
 
-  register-fits : (rom : List ℕ) (way : Route) (b a : ℕ) {v : ℕ} → FitBytes rom → Byte v → FitRead (registerRead rom io way b a v)
+  register-fits : (rom : List ℕ) (way : Route) (b a : ℕ) {v : ℕ} → Bytes rom → Byte v → FitRead (registerRead rom io way b a v)
   unfolding registerRead
   register-fits rom Bank7E b a g h = record { io = f; byte = h }
   register-fits rom Bank7F b a g h = record { io = f; byte = h }
@@ -69,7 +81,7 @@ module _ {io : Io} (f : FitIo io) where
   register-fits rom Cartridge b a g h = record { io = f; byte = rom-fits rom b a g (f .openbus) }
 
 module _ {w : World} (f : FitWorld w) where
-  pub read-fits : (rom : List ℕ) (b a : ℕ) → FitBytes rom → FitReading (readAt rom w b a)
+  pub read-fits : (rom : List ℕ) (b a : ℕ) → Bytes rom → FitReading (readAt rom w b a)
   unfolding readAt
   read-fits rom b a g =
       let r = register-fits (f .io) rom (routeOf b a) b a g (peeked-fits (f .ram) (placeAt w b a)) in
@@ -109,7 +121,7 @@ module _ {w : World} (f : FitWorld w) where
   with-mdmaen-fits h = record { io = fit-enables (f .io) (omega (arith, f .io .enables)); olds = f .olds; ram = f .ram }
 
 -- nothing done on the bus yet
-pub opened-fits : {io : Io} {l h : List ℕ} → FitIo io → FitBytes l → FitBytes h → FitWorld (world (opened io) l h)
+pub opened-fits : {io : Io} {l h : List ℕ} → FitIo io → Bytes l → Bytes h → FitWorld (world (opened io) l h)
 unfolding opened
 opened-fits f p q = record { io = f; olds = omega arith; ram = record { low = p; high = q } }
 

@@ -1,10 +1,9 @@
 -- What an access does to the registers, and the log of accesses (document 01: 0 to 11 of them, in order, unused places zero).
-use Prim.Native.Nat.{ℕ, _+_, _%_, _^_}
+use Prim.Native.Nat.{ℕ}
 use mathlib.Core.Bool.{false}
 use mathlib.Core.List.{List}
-use lib.ListN.{set, replicate}
-use lib.Dec.{ltb}
-use Rattle.common.specs.Pick.{pick}
+use lib.ListN.{replicate}
+use Rattle.common.specs.Fill.{oneMore, storedIn}
 use Rattle.cartridge.specs.Cartridge.{romByte}
 use Rattle.registers.specs.Groups.{withIo-wmadd, withIo-openbus}
 use Rattle.registers.specs.Read.{readIo}
@@ -19,6 +18,7 @@ use Rattle.bus.specs.declared.access.Log.{Log}
 use Rattle.bus.specs.declared.route.Route.{Route}
 use Rattle.bus.specs.declared.route.Route.the-variants.{Bank7E, Bank7F, Data, Registers, Cartridge}
 
+-- an unused place
 abbrev pub noAccess : Access
 noAccess = record { write = false; bank = 0; addr = 0; byte = 0 }
 
@@ -28,7 +28,7 @@ noLog = record { count = 0; items = replicate 11 noAccess }
 
 -- one more: the count steps, and the first eleven are stored
 unfoldable pub pushAccess : Log → Access → Log
-pushAccess log a = record { count = (log .count + 1) % 2 ^ 8; items = pick (ltb (log .count) 11) (set (log .items) (log .count) a) (log .items) }
+pushAccess log a = record { count = oneMore (log .count); items = storedIn 11 (log .count) (log .items) a }
 
 -- nothing done on the bus yet
 unfoldable pub opened : Io → Core
@@ -46,6 +46,7 @@ ioWritten io Data a v = dataStepped io v
 ioWritten io Registers a v = writeIo io a v
 ioWritten io Cartridge a v = io
 
+-- a read that gives a byte
 abbrev pub gave : Io → ℕ → IoRead
 gave io v = record { io = io; byte = v }
 

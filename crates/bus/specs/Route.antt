@@ -21,9 +21,11 @@ system b = pick (within 0x00 0x40 b) true (within 0x80 0xC0 b)
 unfoldable pub systemRoute : ℕ → Route
 systemRoute a = pick (ltb a 0x2000) Bank7E (pick (ltb a 0x6000) (pick (eqb a 0x2180) Data Registers) Cartridge)
 
+-- system banks; work RAM; all else is the cartridge's
 unfoldable pub routeOf : ℕ → ℕ → Route
 routeOf b a = pick (system b) (systemRoute a) (pick (eqb b 0x7E) Bank7E (pick (eqb b 0x7F) Bank7F Cartridge))
 
+-- the place that WMADD names
 abbrev pub wmPlace : WmAddBank → ℕ → Place
 wmPlace wm.Bank7E a = at.Bank7E a
 wmPlace wm.Bank7F a = at.Bank7F a
@@ -40,6 +42,7 @@ placeOf w Cartridge a = at.Nowhere
 abbrev pub zoneCost : ℕ → ℕ
 zoneCost a = pick (within 0x4000 0x4200 a) 12 6
 
+-- work RAM 8, registers by their zone, the cartridge its own
 abbrev pub costBy : Route → ℕ → ℕ → ℕ → ℕ
 costBy Bank7E memsel b a = 8
 costBy Bank7F memsel b a = 8

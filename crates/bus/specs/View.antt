@@ -8,6 +8,7 @@ use Rattle.registers.specs.declared.channel.DmaChannel.{DmaChannel}
 use Rattle.bus.specs.World.{World}
 use Rattle.bus.specs.declared.access.Core.{Core}
 
+-- the core with another register file
 abbrev pub withIo : Core → Io → Core
 withIo k io = record { io = io; log = k .log; olds = k .olds }
 
@@ -15,6 +16,7 @@ withIo k io = record { io = io; log = k .log; olds = k .olds }
 unfoldable pub channelOf : Core → ℕ → DmaChannel
 channelOf k ch = getD (k .io .channels) (ch % 8) noChannel
 
+-- and written
 unfoldable pub withChannel : Core → ℕ → DmaChannel → Core
 withChannel k ch c = withIo k (withIo-channels (k .io) (set (k .io .channels) (ch % 8) c))
 

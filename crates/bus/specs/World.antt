@@ -1,8 +1,7 @@
--- The registers, the log, the bytes overwritten and both banks: what one access does to them all.
+-- The registers, the log, the bytes overwritten and both banks: what one access does to them all (bus/src/bus.rs, read and write).
 use Prim.Native.Nat.{ℕ}
 use mathlib.Core.Bool.{true, false}
 use mathlib.Core.List.{List}
-use mathlib.Core.Path.{_≡_}
 use Rattle.registers.specs.declared.Io.{Io}
 use Rattle.registers.specs.declared.read.IoRead.{IoRead}
 use Rattle.wram.specs.Banks.{Banks, banks, peeked, poked}
@@ -11,20 +10,21 @@ use Rattle.wram.specs.declared.Olds.{Olds}
 use Rattle.wram.specs.declared.Place.{Place}
 use Rattle.bus.specs.Access.{pushAccess, ioWritten, registerRead}
 use Rattle.bus.specs.Route.{routeOf, placeOf}
-use Rattle.bus.specs.declared.access.Access.{Access}
 use Rattle.bus.specs.declared.access.BusRead.{BusRead}
 use Rattle.bus.specs.declared.access.Core.{Core}
 use Rattle.bus.specs.declared.access.Log.{Log}
-use Rattle.bus.specs.declared.route.Route.{Route}
 
+-- what stands on the bus: registers, log and bytes overwritten, and both banks
 pub record World : Type 0 where
   pub core : Core
   pub ram : Banks
 
+-- what a read leaves, and its byte
 pub record Reading : Type 0 where
   pub world : World
   pub byte : ℕ
 
+-- these of the code's values
 abbrev pub world : Core → List ℕ → List ℕ → World
 world k l h = record { core = k; ram = banks l h }
 
@@ -38,6 +38,7 @@ core io log olds = record { io = io; log = log; olds = olds }
 abbrev pub placeAt : World → ℕ → ℕ → Place
 placeAt w b a = placeOf (w .core .io .wmadd) (routeOf b a) a
 
+-- the registers after a read, and the byte
 abbrev pub readIoAt : List ℕ → World → ℕ → ℕ → IoRead
 readIoAt rom w b a = registerRead rom (w .core .io) (routeOf b a) b a (peeked (w .ram) (placeAt w b a))
 

@@ -1,1 +1,2 @@
+-- The cartridge: byte or silence, and its cost.
 pub mod Cartridge

@@ -1,3 +1,4 @@
 pub mod TableLaws
+pub mod RangeLaws
 pub mod AllLaws
 pub mod FillLaws

@@ -37,6 +37,7 @@ pub record Corner : Type 0 where
 abbrev pub corner : List ℕ → List ℕ → Corner
 corner given listed = record { given = given; listed = listed }
 
+-- a bank of work RAM by its number
 abbrev pub bank : WmAddBank → ℕ
 bank b = 0x7E + bit16 b
 
@@ -64,6 +65,7 @@ floating =
 abbrev pub indirect : DmaChannel
 indirect = record { dmap = 0x44; bbad = 0x18; a1t = 0x8000; a1b = 0; das = 0; dasb = 0x7E; a2a = 0x8000; nltr = 0; unused = 0 }
 
+-- the machine after a line of that channel
 abbrev pub reloading : DmaWorld
 reloading =
     let w = world (opened (withIo-channels powerOn (set (powerOn .channels) 0 indirect))) [] [] in
@@ -84,6 +86,7 @@ unfoldable pub held : ℕ → Bool → Machine → ℕ
 held zero due m = 0
 held (suc n) due m = let t = cycled [] m [] [] Nothing due false in boolByte (t .held) + held n false (machineAfter t)
 
+-- document 01's list
 abbrev pub corners : List Corner
 corners =
     corner (alignment 0 ∷ alignment 1 ∷ alignment 15 ∷ []) (8 ∷ 7 ∷ 1 ∷ [])  -- (a)

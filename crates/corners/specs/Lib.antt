@@ -1,1 +1,2 @@
+-- Document 01's corners.
 pub mod Corners

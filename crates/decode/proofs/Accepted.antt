@@ -6,6 +6,7 @@ use mathlib.Core.Path.{_≡_, refl, sym, ap, _∙_}
 use borrow.Author.Tests.{eqb-true, leb-true}
 use lib.Dec.{leb, eqb}
 use lib.ListN.{length, getD, replicate}
+use Rattle.common.specs.Fill.{Filled}
 use Rattle.decode.specs.Decode.{portAt, channelAt, channelsAt, ioAt, lineAt, dmaAt, boardAt, machineAt, oldsAt}
 use Rattle.decode.proofs.Field.{array}
 use Rattle.decode.proofs.Fits.{olds-fit}
@@ -18,7 +19,7 @@ use Rattle.ranges.specs.Entry.{kindTests, zeroTests, flagTests, lineTests, bank
 use Rattle.ranges.specs.Machine.{machineTests, machineOk}
 use Rattle.ranges.specs.Tests.{all}
 use Rattle.ranges.proofs.Tests.{Every, every, whole}
-use Rattle.registers.specs.Fit.{Byte}
+use Rattle.common.specs.Width.{Byte}
 use Rattle.wram.specs.Olds.{noOld}
 use Rattle.wram.specs.Ranges.{OldsOk}
 
@@ -88,12 +89,12 @@ module _ (e : List ℕ) (h : entryOk e ≡ true) where
   unused (suc (suc (suc zero))) k = old-tested (getD e 235 0) (getD e 236 0) (getD e 237 0) (getD e 238 0) (getD e 222 0) 3 (tested e h .old3) k
   unused (suc (suc (suc (suc i)))) k = refl
 
-  pub olds-ok : ((k : ℕ) → Byte (getD e k 0)) → OldsOk (oldsAt e)
+  pub olds-filled : Filled noOld 4 (oldsAt e .count) (oldsAt e .items)
   unfolding oldsAt
-  olds-ok each = record {
-    filled = record { most = leb-true (getD e 222 0) 4 (tested e h .kinds .1 .1 .0); size = refl; unused = unused };
-    fits = olds-fit e each;
-  }
+  olds-filled = record { most = leb-true (getD e 222 0) 4 (tested e h .kinds .1 .1 .0); size = refl; unused = unused }
+
+  pub olds-ok : ((k : ℕ) → Byte (getD e k 0)) → OldsOk (oldsAt e)
+  olds-ok each = record { filled = olds-filled; fits = olds-fit e each }
 
 -- tests for zero, all passed: the bytes are zeros
 zeros-are : (l : List ℕ) → Every (map (λ b. eqb b 0) l) → replicate (length l) 0 ≡ l

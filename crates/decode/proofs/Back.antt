@@ -4,8 +4,9 @@ use mathlib.Core.List.{[], _∷_}
 use mathlib.Core.Path.{_≡_, _∙_}
 use native.Mathlib.Omega.{arith}
 use lib.Dec.{eqb}
-use lib.ListN.{getD}
+use lib.ListN.{length, getD}
 use Rattle.common.proofs.AllLaws.{all-getD}
+use Rattle.common.specs.All.{AllOf}
 use Rattle.decode.specs.Decode.{channelAt, channelsAt, ioAt, dmaAt, boardAt, machineAt, oldsAt, portAt, lineAt, oldAt}
 use Rattle.decode.proofs.Field.{flag, bank, auto, progress, state, array}
 use Rattle.fields.proofs.Number.{number}
@@ -21,7 +22,7 @@ use Rattle.state.specs.Hdma.{noHdma}
 use Rattle.state.specs.declared.HdmaChannelState.{HdmaChannelState}
 use Rattle.state.specs.declared.Machine.{Machine}
 use Rattle.wram.specs.Olds.{noOld}
-use Rattle.wram.specs.Ranges.{FitOld, OldsOk}
+use Rattle.wram.specs.Ranges.{FitOld}
 use Rattle.wram.specs.declared.Old.{Old}
 use Rattle.wram.specs.declared.Olds.{Olds}
 
@@ -153,12 +154,12 @@ module _ (m : Machine) (o : Olds) (f : FitMachine m) where
   machine-back = λ i. record { io = io-back i; dma = dma-back i; board = board-back i }
 
 -- the old bytes
-pub olds-back : (m : Machine) (o : Olds) → OldsOk o → oldsAt (encode m o) ≡ o
+pub olds-back : (m : Machine) (o : Olds) → length (o .items) ≡ 4 → AllOf FitOld (o .items) → oldsAt (encode m o) ≡ o
 unfolding encode image oldsAt
-olds-back m o f =
+olds-back m o four fits =
     let l = o .items in
-    let at : (k : ℕ) → oldAt (encOld (getD l k noOld)) 0 ≡ getD l k noOld = λ k. old (getD l k noOld) (all-getD FitOld l k noOld (f .fits) (record { addr = omega arith; byte = omega arith })) in
+    let at : (k : ℕ) → oldAt (encOld (getD l k noOld)) 0 ≡ getD l k noOld = λ k. old (getD l k noOld) (all-getD FitOld l k noOld fits (record { addr = omega arith; byte = omega arith })) in
     λ i. record {
       count = o .count;
-      items = ((λ j. at 0 j ∷ at 1 j ∷ at 2 j ∷ at 3 j ∷ []) ∙ array 4 l noOld (f .filled .size)) i;
+      items = ((λ j. at 0 j ∷ at 1 j ∷ at 2 j ∷ at 3 j ∷ []) ∙ array 4 l noOld four) i;
     }

@@ -10,7 +10,8 @@ use Rattle.common.specs.Pick.{pick}
 use Rattle.decode.specs.Decode.{portAt, channelAt, channelsAt, ioAt, lineAt, dmaAt, boardAt, machineAt, oldAt, oldsAt}
 use Rattle.fields.specs.Little.{span, field}
 use Rattle.fields.proofs.Number.{field-below}
-use Rattle.registers.specs.Fit.{Byte, Word, Long, FitPort, FitAuto, FitChannel, FitIo}
+use Rattle.registers.specs.Fit.{FitPort, FitAuto, FitChannel, FitIo}
+use Rattle.common.specs.Width.{Byte, Word, Long}
 use Rattle.registers.specs.declared.pads.AutoJoypad.the-variants.{Idle, Pending, Reading}
 use Rattle.state.specs.Fit.{FitProgress, FitHdma, FitDma, FitBoard, FitMachine}
 use Rattle.state.specs.declared.DmaProgress.the-variants.{Nothing, At}

@@ -10,6 +10,7 @@ use lib.ListN.{getD}
 use mir.Val.{boolByte}
 use Rattle.common.specs.Pick.{pick}
 use Rattle.decode.specs.Cases.{bankOf, autoOf, progressOf, stateOf}
+use Rattle.fields.proofs.Flag.{flag-back}
 use Rattle.fields.specs.Little.{joined}
 use Rattle.image.specs.Groups.{bankByte, autoKind, autoBits, autoCountdown, stateByte, present, progressChannel, progressUnit, place, encOld}
 use Rattle.image.proofs.Rows.{place-bytes}
@@ -36,9 +37,7 @@ flag-small true = refl
 flag-small false = refl
 
 pub flag-byte : (x : ℕ) → leb x 1 ≡ true → boolByte (eqb x 1) ≡ x
-flag-byte zero h = refl
-flag-byte (suc zero) h = refl
-flag-byte (suc (suc x)) h = absurd (omega (arith, leb-true (suc (suc x)) 1 h))
+flag-byte x h = flag-back x (leb-true x 1 h)
 
 -- ---- WMADD bank
 
@@ -164,6 +163,6 @@ old-bytes x y z byte count i hx hy h =
     let one : z ≤ 1 = omega arith in
     let lo : a % 256 ≡ x = omega arith in
     let hi : a / 256 ≡ y = omega arith in
-    let bk : boolByte (eqb z 1) ≡ z = flag-byte z (le-leb z 1 one) in
+    let bk : boolByte (eqb z 1) ≡ z = flag-back z one in
     (λ i. getD (place-bytes (eqb z 1) a wide i) 0 0 ∷ getD (place-bytes (eqb z 1) a wide i) 1 0 ∷ getD (place-bytes (eqb z 1) a wide i) 2 0 ∷ byte ∷ [])
     ∙ (λ i. lo i ∷ hi i ∷ bk i ∷ byte ∷ [])

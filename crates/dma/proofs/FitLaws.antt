@@ -8,14 +8,12 @@ use borrow.Author.Tests.{eqb-false}
 use lib.Bits.{and-le-l}
 use lib.Dec.{eqb, ltb}
 use Rattle.common.proofs.TableLaws.{pick-elim, pick-case}
-use Rattle.bus.proofs.FitLaws.{channel-fits, with-channel-fits, mdmaen-fits, hdmaen-fits, with-mdmaen-fits}
-use Rattle.bus.specs.Fit.{FitWorld}
+use Rattle.bus.proofs.FitLaws.{channel-fits, with-channel-fits, mdmaen-fits, hdmaen-fits, with-mdmaen-fits, FitWorld}
 use Rattle.bus.specs.View.{channelOf, withChannel, mdmaenOf, withCore}
-use Rattle.hdma.proofs.FitLaws.{init-fits, line-fits}
+use Rattle.hdma.proofs.FitLaws.{init-fits, line-fits, FitDmaWorld}
 use Rattle.hdma.specs.Engine.{DmaWorld}
-use Rattle.hdma.specs.Fit.{FitDmaWorld}
 use Rattle.hdma.specs.declared.engine.DmaCore.{DmaCore}
-use Rattle.registers.specs.Fit.{Byte}
+use Rattle.common.specs.Width.{Byte, Bytes}
 use Rattle.registers.specs.Groups.{withDmaChannel-das}
 use Rattle.state.specs.Fit.{FitProgress, FitDma}
 use Rattle.state.specs.declared.Dma.{Dma}
@@ -27,7 +25,6 @@ use Rattle.transfer.proofs.BitLaws.{lowest-lt}
 use Rattle.transfer.proofs.FitLaws.{transfer-fits}
 use Rattle.transfer.specs.Bits.{lowest, clearBit, down}
 use Rattle.transfer.specs.Byte.{transferByte}
-use Rattle.wram.specs.Ranges.{FitBytes}
 use Rattle.dma.specs.Cycle.{Held, startPending, dueOf, actBy, acted, updated}
 use Rattle.dma.specs.General.{chosen, afterByte, onBanks, stepFrom, dmaStep}
 use Rattle.dma.specs.Pass.{drainedOf, unqueued, hdmaStep}
@@ -50,7 +47,7 @@ module _ {d : Dma} (f : FitDma d) where
   unfolding drainedOf
   drained-fits = pick-elim FitDma (d .running) (search) (search)
 
-module _ (rom : List ℕ) (g : FitBytes rom) where
+module _ (rom : List ℕ) (g : Bytes rom) where
   step-fits : (p : DmaProgress) {m : DmaWorld} → FitDmaWorld m → FitProgress p → FitDmaWorld (stepFrom rom p m)
   unfolding stepFrom afterByte
   step-fits Nothing {m} f q = record { world = f .world; dma = chosen-fits (f .dma) (mdmaenOf (m .world .core)) (mdmaen-fits (f .world)) }
@@ -79,7 +76,7 @@ module _ (rom : List ℕ) (g : FitBytes rom) where
       pick-elim FitDmaWorld (eqb (m .dma .queue) 0) (record { world = f .world; dma = drained-fits (f .dma) })
       (pick-elim FitDmaWorld (m .dma .init) (init-fits rom g ch u) (line-fits rom g ch u))
 
-module _ (rom : List ℕ) (g : FitBytes rom) where
+module _ (rom : List ℕ) (g : Bytes rom) where
   act-fits : (s : DmaState) {m : DmaWorld} → FitDmaWorld m → FitDmaWorld (actBy rom s m .after)
   unfolding actBy
   act-fits Idle f = f

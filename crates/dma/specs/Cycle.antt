@@ -17,6 +17,7 @@ use Rattle.state.specs.declared.DmaState.the-variants.{Idle, Startup, Dma as Ge
 abbrev pub alignment : ℕ → ℕ
 alignment clock = 8 - clock % 8
 
+-- what is left of alignment + 8 after this cycle
 abbrev pub alignedWait : ℕ → ℕ
 alignedWait clock = alignment clock + 7
 
@@ -33,6 +34,7 @@ dueOf d = d .pending && eqb (d .wait) 0
 abbrev pub takeover : Dma → ℕ → Dma
 takeover d queue = withWait (withQueue (withPending (withState d Hdma) false) queue) 17
 
+-- what a cycle leaves, and whether it held the processor
 pub record Held : Type 0 where
   pub after : DmaWorld
   pub held : Bool
@@ -50,6 +52,7 @@ actBy rom Startup m = holding (at (m .world) (withState (m .dma) General))
 actBy rom General m = holding (dmaStep rom m)
 actBy rom Hdma m = holding (hdmaStep rom m)
 
+-- the action of the unit's state
 unfoldable pub acted : List ℕ → DmaWorld → Held
 acted rom m = actBy rom (m .dma .state) m
 
@@ -59,5 +62,6 @@ cycleFrom rom m =
     pick (dueOf (m .dma)) (holding (at (m .world) (takeover (m .dma) (hdmaenOf (m .world .core)))))
     (pick (ltb 0 (m .dma .wait)) (holding (at (m .world) (withWait (m .dma) (m .dma .wait - 1)))) (acted rom m))
 
+-- a cycle: a general transfer may start first
 unfoldable pub updated : List ℕ → DmaWorld → ℕ → Held
 updated rom m clock = cycleFrom rom (at (m .world) (startPending (m .dma) (mdmaenOf (m .world .core)) clock))

@@ -30,6 +30,7 @@ afterByte k d ch u =
     pick (eqb das 0) (record { core = withMdmaen j (clearBit (mdmaenOf k) ch); dma = withWait (withProgress d Nothing) 7 })
     (record { core = j; dma = withWait (withProgress d (At ch ((u + 1) % 2 ^ 32))) 7 })
 
+-- the banks of a world beside registers and DMA unit
 abbrev pub onBanks : World → DmaCore → DmaWorld
 onBanks w m = record { world = record { core = m .core; ram = w .ram }; dma = m .dma }
 
@@ -38,5 +39,6 @@ unfoldable pub stepFrom : List ℕ → DmaProgress → DmaWorld → DmaWorld
 stepFrom rom Nothing m = at (m .world) (chosen (m .dma) (mdmaenOf (m .world .core)))
 stepFrom rom (At ch u) m = let w = transferByte rom (m .world) ch u in onBanks w (afterByte (w .core) (m .dma) ch u)
 
+-- one action of a general transfer
 unfoldable pub dmaStep : List ℕ → DmaWorld → DmaWorld
 dmaStep rom m = stepFrom rom (m .dma .progress) m

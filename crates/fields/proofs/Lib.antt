@@ -1,2 +1,3 @@
 pub mod Patch
 pub mod Number
+pub mod Flag

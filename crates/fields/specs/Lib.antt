@@ -1,2 +1,3 @@
+-- Little-endian numbers, and bytes laid over others.
 pub mod Little
 pub mod Patch

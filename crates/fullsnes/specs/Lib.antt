@@ -1,1 +1,2 @@
+-- What Fullsnes says of transfers and tables.
 pub mod Said

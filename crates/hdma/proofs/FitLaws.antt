@@ -8,9 +8,8 @@ use lib.Dec.{eqb}
 use lib.ListN.{length-set}
 use Rattle.common.proofs.AllLaws.{all-set, all-getD}
 use Rattle.common.proofs.TableLaws.{pick-elim}
-use Rattle.bus.proofs.FitLaws.{channel-fits, with-channel-fits}
-use Rattle.bus.specs.Fit.{FitWorld}
-use Rattle.registers.specs.Fit.{Byte, Long}
+use Rattle.bus.proofs.FitLaws.{channel-fits, with-channel-fits, FitWorld}
+use Rattle.common.specs.Width.{Byte, Long, Bytes}
 use Rattle.state.specs.Fit.{FitHdma, FitDma}
 use Rattle.state.specs.declared.Dma.{Dma}
 use Rattle.state.specs.declared.HdmaChannelState.{HdmaChannelState}
@@ -18,12 +17,15 @@ use Rattle.transfer.proofs.Adds.{sent-bytes}
 use Rattle.transfer.proofs.FitLaws.{sent-fits, table-fits, das-fits}
 use Rattle.transfer.specs.Bits.{flagOf}
 use Rattle.transfer.specs.Table.{tableRead}
-use Rattle.wram.specs.Ranges.{FitBytes}
 use Rattle.hdma.specs.Engine.{DmaWorld, hdmaAt, setHdma}
 use Rattle.state.specs.Hdma.{noHdma}
 use Rattle.hdma.specs.Entry.{Reloaded, indirectAt, started, reloaded, counted, rewound, initChannel}
-use Rattle.hdma.specs.Fit.{FitDmaWorld}
 use Rattle.hdma.specs.Line.{lineChannel}
+
+-- the DMA unit and what stands on the bus are in their widths
+pub record FitDmaWorld (m : DmaWorld) : Type 0 where
+  pub world : FitWorld (m .world)
+  pub dma : FitDma (m .dma)
 
 record FitReload (r : Reloaded) : Type 0 where
   after : FitDmaWorld (r .after)
@@ -47,7 +49,7 @@ module _ {d : Dma} (f : FitDma d) (ch : ℕ) where
   unfolding counted
   counted-fits l = set-fits (omega arith) l
 
-module _ (rom : List ℕ) (g : FitBytes rom) {m : DmaWorld} (ch : ℕ) (f : FitDmaWorld m) where
+module _ (rom : List ℕ) (g : Bytes rom) {m : DmaWorld} (ch : ℕ) (f : FitDmaWorld m) where
   reload-fits : (ind : Bool) → FitReload (reloaded rom m ch ind)
   unfolding reloaded
   reload-fits ind =
@@ -73,7 +75,7 @@ module _ (rom : List ℕ) (g : FitBytes rom) {m : DmaWorld} (ch : ℕ) (f : FitD
       (record { world = das-fits rom g ch (r .world); dma = set-fits (f .dma) ch (record { counter = r .byte }) (omega arith) })
       (record { world = r .world; dma = set-fits (f .dma) ch (record { counter = r .byte }) (omega arith) }))
 
-module _ (rom : List ℕ) (g : FitBytes rom) {m : DmaWorld} (ch : ℕ) (f : FitDmaWorld m) where
+module _ (rom : List ℕ) (g : Bytes rom) {m : DmaWorld} (ch : ℕ) (f : FitDmaWorld m) where
   pub line-fits : FitDmaWorld (lineChannel rom m ch)
   unfolding lineChannel
   line-fits =

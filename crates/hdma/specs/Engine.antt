@@ -40,6 +40,7 @@ pub record DmaWorld : Type 0 where
   pub world : World
   pub dma : Dma
 
+-- these of the code's values
 abbrev pub dmaWorld : DmaCore → List ℕ → List ℕ → DmaWorld
 dmaWorld m l h = record { world = world (m .core) l h; dma = m .dma }
 

@@ -18,6 +18,7 @@ use Rattle.hdma.specs.declared.entry.Reload.{Reload}
 abbrev pub indirectAt : DmaWorld → ℕ → Bool
 indirectAt m ch = flagOf (channelOf (m .world .core) ch .dmap) 0x40
 
+-- what reading an entry leaves: the wait so far, and whether the table has ended
 pub record Reloaded : Type 0 where
   pub after : DmaWorld
   pub wait : ℕ
@@ -63,6 +64,7 @@ abbrev pub rewound : World → ℕ → World
 rewound w ch =
     let c = channelOf (w .core) ch in withCore w (withChannel (w .core) ch (withDmaChannel-a2a c (c .a1t)))
 
+-- the entry of a frame's start: the channel's state begins anew
 abbrev pub firstEntry : List ℕ → Dma → Reading → ℕ → Bool → DmaWorld
 firstEntry rom d r ch ind =
     pick (eqb (r .byte) 0) (at (r .world) (setHdma d ch (record { counter = 0; transfer = false; finished = true }) 7))

@@ -14,12 +14,9 @@ use Rattle.state.specs.declared.Machine.{Machine}
 use Rattle.wram.specs.Olds.{noOld}
 use Rattle.wram.specs.declared.Olds.{Olds}
 
--- how many bytes an entry has, and how many of them are the machine's image
+-- how many bytes an entry has
 abbrev pub entrySize : ℕ
 entrySize = 256
-
-abbrev pub imageSize : ℕ
-imageSize = 222
 
 -- eight of (line counter, do transfer, finished)
 abbrev pub encLines : List HdmaChannelState → List ℕ

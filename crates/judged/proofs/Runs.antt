@@ -16,7 +16,7 @@ use Rattle.machine.proofs.Ranges.{power-on-ok}
 use Rattle.machine.specs.Cycle.{Turned, cycled}
 use Rattle.rewind.proofs.Calls.{SoundDesk, lent-sound, op-keeps}
 use Rattle.rewind.specs.Rules.{cycle, obeyed}
-use Rattle.wram.specs.Ranges.{FitBytes}
+use Rattle.common.specs.Width.{Bytes}
 
 -- a desk that no operation is refused on, with a record of two slots
 abbrev pub Ready : Desk → Type 0
@@ -25,7 +25,7 @@ Ready d = SoundDesk 512 d
 abbrev clockOf : Desk → ℕ
 clockOf d = d .bench .machine .board .clock
 
-pub start-ready : (l h e : List ℕ) → Sizes l h e → FitBytes l → FitBytes h → Ready (start l h e)
+pub start-ready : (l h e : List ℕ) → Sizes l h e → Bytes l → Bytes h → Ready (start l h e)
 start-ready l h e s f g = record {
   good =
       record {
@@ -42,7 +42,7 @@ start-ready l h e s f g = record {
   kept-in = omega arith;
 }
 
-module _ (rom : List ℕ) (f : FitBytes rom) (short : length rom ≤ 4194304) where
+module _ (rom : List ℕ) (f : Bytes rom) (short : length rom ≤ 4194304) where
   module _ (event : ℕ) (line timer : Bool) (d : Desk) where
     abbrev turned : Turned
     turned = cycled rom (d .bench .machine) (d .ram .low) (d .ram .high) (eventOf event) line timer

@@ -2,7 +2,7 @@
 use Prim.Native.Nat.{ℕ, _≤_}
 use mathlib.Core.Bool.{true}
 use mathlib.Core.List.{List}
-use mathlib.Core.Path.{_≡_, refl}
+use mathlib.Core.Path.{_≡_}
 use native.Mathlib.Omega.{arith}
 use borrow.Author.Tests.{le-ltb}
 use lib.ListN.{length, replicate, length-replicate}
@@ -10,9 +10,10 @@ use Rattle.bench.specs.Calls.{lentOf}
 use Rattle.bench.specs.Refusal.{lentNumber}
 use Rattle.judged.specs.Tried.{Sizes, start}
 use Rattle.machine.proofs.FitLaws.{power-on-fits}
-use Rattle.machine.specs.PowerOn.{powerOnDma, powerOnMachine}
+use Rattle.machine.proofs.Ranges.{power-on-ok}
+use Rattle.machine.specs.PowerOn.{powerOnMachine}
+use Rattle.ranges.proofs.MachineLaws.{passes}
 use Rattle.ranges.specs.Machine.{machineOk}
-use Rattle.registers.specs.PowerOn.{powerOn}
 use Rattle.state.specs.Fit.{FitMachine}
 
 -- so many bytes
@@ -20,8 +21,7 @@ pub some-bytes : (n : ℕ) → (l : List ℕ) × (length l ≡ n)
 some-bytes n = (replicate n 0, length-replicate n 0)
 
 pub start-ok : machineOk (powerOnMachine 264) ≡ true
-unfolding machineOk powerOnMachine powerOnDma powerOn
-start-ok = refl
+start-ok = passes (powerOnMachine 264) (power-on-ok 264 (omega arith) (omega arith))
 
 module _ {l h e : List ℕ} (s : Sizes l h e) where
   pub start-lent : (rom : List ℕ) → length rom ≤ 4194304 → lentOf (start l h e) (length rom) ≡ 0

@@ -1,2 +1,3 @@
+-- What a call leaves, and what rejected cores are tried on.
 pub mod Outcome
 pub mod Tried

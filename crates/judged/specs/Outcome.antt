@@ -1,4 +1,4 @@
--- What a call leaves: its answer, and the bytes of what it was lent.
+-- What a call (document 01, "Calls") leaves: its answer, and the bytes of what it was lent.
 use Prim.Native.Nat.{ℕ}
 use mathlib.Core.List.{List}
 use mathlib.Core.Path.{_≡_}
@@ -8,6 +8,7 @@ use Rattle.bench.specs.declared.operate.CycleAnswer.{CycleAnswer}
 use Rattle.bench.specs.declared.operate.ReadAnswer.{ReadAnswer}
 use Rattle.bench.specs.declared.operate.WriteAnswer.{WriteAnswer}
 
+-- an answer, both banks and the record
 pub record Outcome (A : Type 0) : Type 0 where
   pub answer : A
   pub low : List ℕ

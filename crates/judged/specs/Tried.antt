@@ -6,11 +6,13 @@ use mathlib.Core.Path.{_≡_}
 use lib.ListN.{length}
 use Rattle.bench.specs.Calls.{Desk, desk, cycleCall, emptyBench}
 
+-- the sizes of both banks and of the record
 pub record Sizes (l h e : List ℕ) : Type 0 where
   pub low : length l ≡ 65536
   pub high : length h ≡ 65536
   pub entries : length e ≡ 512
 
+-- the desk that fresh gives
 abbrev pub start : List ℕ → List ℕ → List ℕ → Desk
 start l h e = desk (emptyBench 512 264) l h e
 

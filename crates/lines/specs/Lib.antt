@@ -1,2 +1,3 @@
+-- The text of a line of the trace, and the RAM fill.
 pub mod Line
 pub mod Fill

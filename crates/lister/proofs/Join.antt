@@ -4,14 +4,14 @@ use mathlib.Core.List.{List, _++_}
 use mathlib.Core.Path.{_≡_, _∙_}
 use Rattle.append.specs.Sheet.{Sheet, puts}
 use Rattle.append.proofs.Laws.{then}
-use Rattle.benchfile.specs.Bytes.{twoAt}
+use Rattle.fields.specs.Little.{field}
 use Rattle.benchfile.specs.File.{sectionOf}
 use Rattle.lister.specs.Body.{linesText, fillWord, romWord}
 use Rattle.lister.specs.List.{settingsText, scriptText, listText}
 
 -- settings, fill, ROM and rows make the whole text
 pub listed : (s : Sheet) {t u v w : Sheet} (f : List ℕ) {first fill rom script : List ℕ} {n : ℕ}
-    → first ≡ sectionOf f 0 → fill ≡ sectionOf f 1 → rom ≡ sectionOf f 2 → script ≡ sectionOf f 3 → n ≡ twoAt first 0
+    → first ≡ sectionOf f 0 → fill ≡ sectionOf f 1 → rom ≡ sectionOf f 2 → script ≡ sectionOf f 3 → n ≡ field 2 first 0
     → t ≡ puts s (settingsText n) → u ≡ puts t (linesText fillWord fill) → v ≡ puts u (linesText romWord rom)
     → w ≡ puts v (scriptText script) → w ≡ puts s (listText f)
 unfolding listText

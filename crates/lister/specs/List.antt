@@ -2,7 +2,7 @@
 use Prim.Native.Nat.{ℕ, _/_}
 use mathlib.Core.List.{List, [], _∷_, _++_}
 use lib.ListN.{length}
-use Rattle.benchfile.specs.Bytes.{twoAt}
+use Rattle.fields.specs.Little.{field}
 use Rattle.benchfile.specs.Row.{rowBytes}
 use Rattle.benchfile.specs.File.{sectionOf}
 use Rattle.append.specs.Number.{decimal}
@@ -26,5 +26,5 @@ scriptText s = rowsText s (length s / 8) 0
 
 unfoldable pub listText : List ℕ → List ℕ
 listText f =
-    settingsText (twoAt (sectionOf f 0) 0)
+    settingsText (field 2 (sectionOf f 0) 0)
     ++ (linesText fillWord (sectionOf f 1) ++ (linesText romWord (sectionOf f 2) ++ scriptText (sectionOf f 3)))

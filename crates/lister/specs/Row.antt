@@ -4,8 +4,9 @@ use mathlib.Core.List.{List, [], _∷_, _++_}
 use lib.Dec.{eqb}
 use Rattle.common.specs.Pick.{pick}
 use Rattle.common.specs.Table.{Entry, find, at}
-use Rattle.benchfile.specs.Bytes.{byteAt, twoAt}
+use Rattle.benchfile.specs.Bytes.{byteAt}
 use Rattle.append.specs.Number.{hexByte, decimal}
+use Rattle.fields.specs.Little.{field}
 
 -- `read $00:4302`
 abbrev pub readText : ℕ → ℕ → ℕ → List ℕ
@@ -84,13 +85,13 @@ backText n = backWord ++ (decimal n ++ (10 ∷ []))
 -- the line of a row, by its kind
 abbrev pub texts : List ℕ → List (Entry (List ℕ))
 texts b =
-    at 1 (cyclesText (twoAt b 1) (byteAt b 3) (byteAt b 4))
+    at 1 (cyclesText (field 2 b 1) (byteAt b 3) (byteAt b 4))
     ∷ at 2 (readText (byteAt b 1) (byteAt b 2) (byteAt b 3))
     ∷ at 3 (writeText (byteAt b 1) (byteAt b 2) (byteAt b 3) (byteAt b 4))
     ∷ at 4 (padText (byteAt b 1) (byteAt b 2) (byteAt b 3))
     ∷ at 5 (plugText (byteAt b 1) (byteAt b 2))
     ∷ at 6 (answerText (byteAt b 2) (byteAt b 3) (byteAt b 4))
-    ∷ at 7 (backText (twoAt b 1))
+    ∷ at 7 (backText (field 2 b 1))
     ∷ []
 
 unfoldable pub rowText : List ℕ → List ℕ

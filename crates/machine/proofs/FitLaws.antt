@@ -9,11 +9,12 @@ use Rattle.common.proofs.AllLaws.{all-replicate}
 use Rattle.common.proofs.TableLaws.{pick-elim}
 use Rattle.bus.proofs.FitLaws.{opened-fits}
 use Rattle.dma.proofs.FitLaws.{updated-fits}
-use Rattle.hdma.specs.Fit.{FitDmaWorld}
+use Rattle.hdma.proofs.FitLaws.{FitDmaWorld}
 use Rattle.registers.proofs.FitGroups.{fit-pads}
 use Rattle.registers.proofs.FitKept.{fit-power-on}
 use Rattle.registers.proofs.FitParts.{fit-buttons}
-use Rattle.registers.specs.Fit.{Word, FitIo}
+use Rattle.registers.specs.Fit.{FitIo}
+use Rattle.common.specs.Width.{Word, Bytes}
 use Rattle.registers.specs.Write.{irqDisabled}
 use Rattle.registers.specs.declared.Io.{Io}
 use Rattle.signals.proofs.FitKept.{fit-nmi-flag, fit-timeup-flag, fit-hvbjoy, fit-auto-start, fit-auto-step}
@@ -22,7 +23,6 @@ use Rattle.state.specs.Fit.{FitHdma, FitDma, FitBoard, FitMachine}
 use Rattle.state.specs.declared.Board.{Board}
 use Rattle.state.specs.declared.Dma.{Dma}
 use Rattle.state.specs.declared.Machine.{Machine}
-use Rattle.wram.specs.Ranges.{FitBytes}
 use Rattle.machine.specs.Cycle.{machineAfter, armed, ticked, begun, cycled}
 use Rattle.machine.specs.Event.{pressed, vblankStarted, frameStarted, evented, settled, timed}
 use Rattle.machine.specs.PowerOn.{powerOnDma, powerOnMachine}
@@ -67,7 +67,7 @@ armed-fits mask frame line f = pick-elim FitDma (eqb mask 0) f (search)
 ticked-fits : {b : Board} (nmi : Bool) → FitBoard b → FitBoard (ticked b nmi)
 ticked-fits nmi f = omega arith
 
-module _ (rom : List ℕ) (m : Machine) (l h : List ℕ) (event : Event) (line hit : Bool) (r : FitBytes rom) (f : FitMachine m) (p : FitBytes l) (q : FitBytes h) where
+module _ (rom : List ℕ) (m : Machine) (l h : List ℕ) (event : Event) (line hit : Bool) (r : Bytes rom) (f : FitMachine m) (p : Bytes l) (q : Bytes h) where
   pub begun-fits : FitDmaWorld (begun m l h event line hit)
   begun-fits = record {
     world = opened-fits (timed-fits (settled-fits (m .board .pad1) (m .board .pad2) event (f .io) (f .board .bitcycles)) hit) p q;

@@ -10,7 +10,8 @@ use Rattle.bus.proofs.FitLaws.{mdmaen-fits, olds-ok}
 use Rattle.dma.proofs.Ranges.{updated-ok}
 use Rattle.joypad.proofs.Buttons.{low-bits}
 use Rattle.registers.specs.PowerOn.{powerOn}
-use Rattle.registers.specs.Ranges.{AutoOk, SameButtons, Undisturbed}
+use Rattle.registers.specs.Ranges.{AutoOk}
+use Rattle.registers.proofs.PadsLaws.{SameButtons, Undisturbed}
 use Rattle.registers.specs.Write.{irqDisabled}
 use Rattle.registers.specs.declared.Io.{Io}
 use Rattle.registers.specs.declared.pads.Pads.{Pads}
@@ -20,7 +21,8 @@ use Rattle.state.specs.Fit.{FitMachine}
 use Rattle.state.specs.Ranges.{DmaOk, PadsOk, MachineOk}
 use Rattle.state.specs.declared.Dma.{Dma}
 use Rattle.state.specs.declared.Machine.{Machine}
-use Rattle.wram.specs.Ranges.{FitBytes, OldsOk}
+use Rattle.wram.specs.Ranges.{OldsOk}
+use Rattle.common.specs.Width.{Bytes}
 use Rattle.machine.proofs.Adds.{cycle-recorded}
 use Rattle.machine.proofs.FitLaws.{begun-fits, cycle-fits}
 use Rattle.machine.specs.Cycle.{machineAfter, armed, settledOf, begun, cycled}
@@ -77,7 +79,7 @@ armed-ok : {d : Dma} (mask : ℕ) (frame line : Bool) → DmaOk d → DmaOk (arm
 unfolding armed
 armed-ok mask frame line f = pick-elim DmaOk (eqb mask 0) f (record { wait = f .wait; progress = f .progress })
 
-module _ (rom : List ℕ) (m : Machine) (l h : List ℕ) (event : Event) (line hit : Bool) (r : FitBytes rom) (f : FitMachine m) (p : FitBytes l) (q : FitBytes h) where
+module _ (rom : List ℕ) (m : Machine) (l h : List ℕ) (event : Event) (line hit : Bool) (r : Bytes rom) (f : FitMachine m) (p : Bytes l) (q : Bytes h) where
   pub cycle-ok : MachineOk m → MachineOk (machineAfter (cycled rom m l h event line hit))
   unfolding cycled
   cycle-ok k =

@@ -42,6 +42,7 @@ pub record Turned : Type 0 where
 abbrev pub machineAfter : Turned → Machine
 machineAfter t = record { io = t .after .world .core .io; dma = t .after .dma; board = t .board }
 
+-- these of the code's values
 abbrev pub turning : Turn → List ℕ → List ℕ → Turned
 turning r l h = record { after = at (world (r .core) l h) (r .dma); board = r .board; held = r .held; edge = r .edge }
 
@@ -54,8 +55,10 @@ abbrev pub begun : Machine → List ℕ → List ℕ → Event → Bool → Bool
 begun m l h event line hit =
     let k = opened (timed (settledOf m event) hit) in at (world k l h) (armed (m .dma) (hdmaenOf k) (isFrame event) line)
 
+-- DMA unit, board, held and edge put together
 abbrev pub turnOf : Held → Machine → Bool → Turned
 turnOf d m nmi = record { after = d .after; board = ticked (m .board) nmi; held = d .held; edge = rising (m .board .nmi) nmi }
 
+-- the whole cycle; the NMI line is as it stands before the timer's hit
 unfoldable pub cycled : List ℕ → Machine → List ℕ → List ℕ → Event → Bool → Bool → Turned
 cycled rom m l h event line hit = turnOf (updated rom (begun m l h event line hit) (m .board .clock)) m (nmiLine (settledOf m event))

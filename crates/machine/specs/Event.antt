@@ -32,6 +32,7 @@ evented io NormalLine = setHblank io false
 evented io VBlankStart = vblankStarted (setHblank io false)
 evented io FrameStart = frameStarted (setHblank io false)
 
+-- a frame starts
 abbrev pub isFrame : Event → Bool
 isFrame Nothing = false
 isFrame HBlankStart = false

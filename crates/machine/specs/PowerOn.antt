@@ -9,6 +9,7 @@ use Rattle.state.specs.declared.DmaProgress.the-variants.{Nothing}
 use Rattle.state.specs.declared.DmaState.the-variants.{Idle}
 use Rattle.state.specs.declared.Machine.{Machine}
 
+-- the DMA unit
 unfoldable pub powerOnDma : Dma
 powerOnDma = record { state = Idle; wait = 0; running = false; progress = Nothing; pending = false; init = false; queue = 0; channels = replicate 8 noHdma }
 

@@ -1,8 +1,8 @@
--- What an exported call leaves, in bytes: its number, the machine, both banks, the record, and what it answers beside the number.
+-- What an exported call leaves, in bytes (docs/PLAYER.md): its number, the machine, both banks, the record, and what it answers beside the number.
 use Prim.Native.Nat.{ℕ}
 use mathlib.Core.Bool.{Bool}
 use mathlib.Core.List.{List, [], _∷_, _++_}
-use lib.ListN.{length, getD}
+use lib.ListN.{getD}
 use Rattle.bench.specs.Calls.{Desk, desk, CycleOut, ReadOut, WriteOut, PlainOut}
 use Rattle.bench.specs.declared.operate.Answer.{Answer}
 use Rattle.bus.specs.Access.{noAccess}
@@ -11,7 +11,7 @@ use Rattle.bus.specs.declared.access.Log.{Log}
 use Rattle.fields.specs.Little.{le}
 use Rattle.fields.specs.Patch.{patched}
 use Rattle.image.specs.Groups.{byte, flag, rows}
-use Rattle.player_abi.specs.Bytes.{benchOf, stored, saved}
+use Rattle.player_abi.specs.Bytes.{stored, saved}
 
 pub record Crossed : Type 0 where
   pub number : ℕ
@@ -40,6 +40,7 @@ encAccesses l = rows 11 (λ i. encAccess (getD l i noAccess))
 unfoldable pub answered : Bool → Bool → Log → List ℕ → List ℕ
 answered held edge log out = patched (patched out 0 (flag held ++ flag edge ++ byte (log .count))) 3 (encAccesses (log .items))
 
+-- held, edge and accesses
 abbrev pub cycleCrossed : List ℕ → List ℕ → CycleOut → Crossed
 cycleCrossed s out o = crossing (o .number) (o .desk) s (answered (o .held) (o .edge) (o .log) out)
 
@@ -51,6 +52,7 @@ readCrossed s out o = crossing (o .number) (o .desk) s (patched out 0 (o .byte �
 abbrev pub writeCrossed : List ℕ → List ℕ → WriteOut → Crossed
 writeCrossed s out o = crossing (o .number) (o .desk) s (patched out 0 (o .cost ∷ []))
 
+-- nothing beside the number
 abbrev pub plainCrossed : List ℕ → PlainOut → Crossed
 plainCrossed s o = crossing (o .number) (o .desk) s []
 

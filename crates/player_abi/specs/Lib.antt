@@ -1,2 +1,3 @@
+-- The public calls in bytes, as they cross to another language.
 pub mod Bytes
 pub mod Crossed

@@ -7,10 +7,10 @@ use native.Mathlib.Numerals.{add-one}
 use native.Mathlib.Omega.{arith}
 use lib.Dec.{leb, eqb}
 use lib.ListN.{length}
-use Rattle.bench.specs.Calls.{Desk}
+use Rattle.bench.specs.Calls.{Desk, freshCall}
 use Rattle.bench.specs.declared.operate.Answer.{Answer}
-use Rattle.bench.specs.Calls.{freshCall}
-use Rattle.benchfile.specs.Bytes.{byteAt, twoAt}
+use Rattle.benchfile.specs.Bytes.{byteAt}
+use Rattle.fields.specs.Little.{field}
 use Rattle.benchfile.specs.File.{fileCheck, sectionOf}
 use Rattle.benchfile.specs.Row.{rowOf, rowBytes}
 use Rattle.benchfile.specs.declared.row.Row.{Row}
@@ -21,7 +21,8 @@ use Rattle.lines.specs.Line.{lineText, refusedText}
 use Rattle.lines.specs.Fill.{filled}
 use Rattle.printout.specs.Row.{Shown, rowShown}
 use Rattle.printout.specs.Rows.{Standing, after, stepped, steps}
-use Rattle.printout.specs.Start.{Starting, startNumber, madeFor, refusalOf, startRun}
+use Rattle.bench.specs.Refusal.{alsoOf}
+use Rattle.printout.specs.Start.{Starting, madeFor, refusalOf, startRun}
 
 pub row-joined : (rom row : List ℕ) (number : ℕ) (d : Desk) (t : Sheet) {says : Row} {kind : ℕ} {r : Running} {u : Sheet} → says ≡ rowOf row → kind ≡ byteAt row 0
     → r ≡ rowRun rom says d → u ≡ puts t (lineText number kind (r .number) (r .a) (r .b)) → _≡_ {A = Shown} (record { ran = r; out = u }) (rowShown rom row number d t)
@@ -83,8 +84,8 @@ module _ (rom script : List ℕ) (n : ℕ) (s₀ : Standing) where
   going-end {s} {i} g h = let e : i ≡ n = omega (arith, g .under) in g .is ∙ ap (λ (k : ℕ). steps rom script k s₀) e
 
 -- a file before its first row
-module _ (f low high out : List ℕ) {settings : List ℕ} {bits broken n : ℕ} {made : Answer} (p : settings ≡ sectionOf f 0) (q : bits ≡ twoAt settings 0)
-    (m : made ≡ freshCall 65536 bits) (r : broken ≡ fileCheck f) (s : n ≡ startNumber broken (made .number)) where
+module _ (f low high out : List ℕ) {settings : List ℕ} {bits broken n : ℕ} {made : Answer} (p : settings ≡ sectionOf f 0) (q : bits ≡ field 2 settings 0)
+    (m : made ≡ freshCall 65536 bits) (r : broken ≡ fileCheck f) (s : n ≡ alsoOf broken (made .number)) where
   made-is : made ≡ madeFor f
   unfolding madeFor
   made-is = cc

@@ -7,7 +7,8 @@ use Rattle.common.specs.Pick.{pick}
 use Rattle.bench.specs.declared.Bench.{Bench}
 use Rattle.bench.specs.declared.operate.Answer.{Answer}
 use Rattle.bench.specs.Calls.{freshCall}
-use Rattle.benchfile.specs.Bytes.{twoAt}
+use Rattle.bench.specs.Refusal.{alsoOf}
+use Rattle.fields.specs.Little.{field}
 use Rattle.benchfile.specs.File.{fileCheck, sectionOf}
 use Rattle.append.specs.Sheet.{Sheet, sheet, puts}
 use Rattle.lines.specs.Line.{refusedText}
@@ -24,17 +25,13 @@ pub record Starting : Type 0 where
 abbrev pub started : Started → List ℕ → List ℕ → List ℕ → Starting
 started r l h out = record { number = r .number; bench = r .bench; low = l; high = h; out = sheet out (r .used) }
 
--- a broken file is refused before its bit cycles are looked at
-abbrev pub startNumber : ℕ → ℕ → ℕ
-startNumber broken bad = pick (eqb broken 0) bad broken
-
 -- fresh with the record's 65,536 bytes and the settings' bit cycles
 unfoldable pub madeFor : List ℕ → Answer
-madeFor f = freshCall 65536 (twoAt (sectionOf f 0) 0)
+madeFor f = freshCall 65536 (field 2 (sectionOf f 0) 0)
 
--- why a file cannot be run, or 0
+-- why a file cannot be run, or 0: a broken file is refused before its bit cycles are looked at
 unfoldable pub refusalOf : List ℕ → ℕ
-refusalOf f = startNumber (fileCheck f) (madeFor f .number)
+refusalOf f = alsoOf (fileCheck f) (madeFor f .number)
 
 -- both banks filled, or the only line of a file that cannot be run
 unfoldable pub startRun : List ℕ → List ℕ → List ℕ → List ℕ → Starting

@@ -1,7 +1,8 @@
 // A bench file before its first row: its check, a fresh bench, the RAM fill.
 ghost use mathlib.Core.Path.{_≡_};
 ghost use denote.Ref.{now};
-ghost use Rattle.printout.specs.Start.{started, startRun, startNumber};
+ghost use Rattle.printout.specs.Start.{started, startRun};
+ghost use Rattle.bench.specs.Refusal.{alsoOf};
 use bench::Bench;
 use bench::fresh::fresh;
 use benchfile::check::file_check;
@@ -19,7 +20,7 @@ pub struct Started {
 
 // A broken file is refused before its bit cycles are looked at.
 fn first_refusal(broken: u8, bad: u8) -> u8
-    ensures { λ r. ⌜ r ≡ startNumber broken bad ⌝ }
+    ensures { λ r. ⌜ r ≡ alsoOf broken bad ⌝ }
 {
     if broken != 0 { broken } else { bad }
 }

@@ -77,5 +77,6 @@ module _ (e : List ℕ) where
       ∷ all (oldTests (at 222) 3 (field 3 e 235) (at 238))
       ∷ []
 
+  -- all of them
   unfoldable pub entryOk : Bool
   entryOk = all entryTests

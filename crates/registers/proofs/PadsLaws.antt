@@ -1,16 +1,25 @@
 -- No register access moves the automatic read or presses a button.
 use Prim.Native.Nat.{ℕ}
-use mathlib.Core.Path.{refl}
+use mathlib.Core.Path.{_≡_, refl}
 use Rattle.common.specs.Range.{within}
 use Rattle.common.proofs.AllLaws.{_also_}
 use Rattle.common.proofs.TableLaws.{pick-elim, find-elim}
 use Rattle.joypad.proofs.Buttons.{clock-keeps}
 use Rattle.registers.specs.Groups.{withIo-openbus}
-use Rattle.registers.specs.Ranges.{Undisturbed}
 use Rattle.registers.specs.Read.{afterTable, readIo}
 use Rattle.registers.specs.Write.{writeTable, writeCpu, writeIo}
 use Rattle.registers.specs.declared.Io.{Io}
 use Rattle.registers.specs.declared.pads.Pads.{Pads}
+
+-- q has the buttons of p in both ports
+pub record SameButtons (p q : Pads) : Type 0 where
+  pub one : q .port1 .buttons ≡ p .port1 .buttons
+  pub two : q .port2 .buttons ≡ p .port2 .buttons
+
+-- and the automatic read stands where it stood
+pub record Undisturbed (p q : Pads) : Type 0 where
+  pub auto : q .auto ≡ p .auto
+  pub buttons : SameButtons p q
 
 same : {p : Pads} → Undisturbed p p
 same = record { auto = refl; buttons = record { one = refl; two = refl } }

@@ -27,7 +27,7 @@ use Rattle.rewind.specs.Run.{operation, back, Reply, called, stateOf}
 use Rattle.state.specs.declared.Machine.{Machine}
 use Rattle.wram.specs.Banks.{Banks}
 use Rattle.wram.specs.Olds.{noOlds}
-use Rattle.wram.specs.Ranges.{FitBytes}
+use Rattle.common.specs.Width.{Bytes}
 
 -- what the table still refuses where everything lent is sound: 5, 6 and 7
 abbrev pub numberOf : Op → Machine → ℕ
@@ -115,7 +115,7 @@ module _ (rom : List ℕ) (d : Desk) (sound : lentOf d (length rom) ≡ 0) where
       ∙ ap (λ (k : ℕ). reply (addressNumber k addr) d (obeyed rom (answer addr byte) (stateOf d))) sound
 
 -- an accepted operation leaves a sound desk
-pub op-keeps : (rom : List ℕ) → FitBytes rom → (len : ℕ) (d : Desk) → SoundDesk len d → (o : Op) → Typed o → SoundDesk len (reply 0 d (obeyed rom o (stateOf d)) .desk)
+pub op-keeps : (rom : List ℕ) → Bytes rom → (len : ℕ) (d : Desk) → SoundDesk len d → (o : Op) → Typed o → SoundDesk len (reply 0 d (obeyed rom o (stateOf d)) .desk)
 unfolding noted
 op-keeps rom bytes len d s o t =
     let c : capacity (d .bench) ≡ len / 256 = ap (λ (n : ℕ). n / 256) (s .fresh) in

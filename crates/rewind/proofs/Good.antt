@@ -11,8 +11,7 @@ use lib.ListN.{length, length-set}
 use Rattle.bench.specs.Calls.{eventOf}
 use Rattle.bench.specs.Host.{withIo, withPads, padSet, connect, plugSet, answerSet}
 use Rattle.bus.proofs.Adds.{Recorded, read-recorded, write-recorded}
-use Rattle.bus.proofs.FitLaws.{opened-fits, read-fits, write-fits, olds-ok}
-use Rattle.bus.specs.Fit.{FitWorld}
+use Rattle.bus.proofs.FitLaws.{opened-fits, read-fits, write-fits, olds-ok, FitWorld}
 use Rattle.bus.specs.World.{World}
 use Rattle.common.proofs.AllLaws.{all-set}
 use Rattle.common.proofs.TableLaws.{pick-elim}
@@ -22,7 +21,8 @@ use Rattle.machine.proofs.Adds.{cycle-recorded}
 use Rattle.machine.proofs.FitLaws.{machine-fits, cycle-fits}
 use Rattle.machine.proofs.Ranges.{undisturbed-ok, cycle-ok, cycle-olds}
 use Rattle.registers.proofs.FitGroups.{fit-pads, fit-ports}
-use Rattle.registers.specs.Fit.{Byte, Word, FitPort, FitIo}
+use Rattle.registers.specs.Fit.{FitPort, FitIo}
+use Rattle.common.specs.Width.{Byte, Word, Bytes}
 use Rattle.registers.specs.declared.Io.{Io}
 use Rattle.rewind.specs.Rules.{Op, cycle, read, write, pad, plug, answer, Typed, State, world, accessed, changed, obeyed}
 use Rattle.state.specs.Fit.{FitMachine}
@@ -30,15 +30,15 @@ use Rattle.state.specs.Ranges.{MachineOk}
 use Rattle.state.specs.declared.Machine.{Machine}
 use Rattle.wram.proofs.FitLaws.{no-olds-ok}
 use Rattle.wram.specs.Olds.{noOlds, putBack, backFrom}
-use Rattle.wram.specs.Ranges.{FitBytes, OldsOk}
+use Rattle.wram.specs.Ranges.{OldsOk}
 use Rattle.wram.specs.declared.Olds.{Olds}
 
 pub record Good (s : State) : Type 0 where
   pub fits : FitMachine (s .machine)
   pub ranges : MachineOk (s .machine)
-  pub low-bytes : FitBytes (s .ram .low)
+  pub low-bytes : Bytes (s .ram .low)
   pub low-length : length (s .ram .low) ≡ 65536
-  pub high-bytes : FitBytes (s .ram .high)
+  pub high-bytes : Bytes (s .ram .high)
   pub high-length : length (s .ram .high) ≡ 65536
 
 -- what an operation owes: a good state, old bytes as an entry has them, and that they undo it
@@ -163,7 +163,7 @@ module _ {s : State} (g : Good s) where
 
 -- ---- every operation
 
-pub lawful : (rom : List ℕ) → FitBytes rom → (o : Op) → Typed o → (s : State) → Good s → Lawful s (obeyed rom o s .state) (obeyed rom o s .olds)
+pub lawful : (rom : List ℕ) → Bytes rom → (o : Op) → Typed o → (s : State) → Good s → Lawful s (obeyed rom o s .state) (obeyed rom o s .olds)
 unfolding obeyed
 lawful rom r (cycle event line timer) h s g =
     let m = s .machine in

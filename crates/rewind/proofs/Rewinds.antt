@@ -14,7 +14,7 @@ use Rattle.bench.specs.Ring.{after, before, capacity, noted}
 use Rattle.common.specs.All.{AllOf}
 use Rattle.common.specs.Pick.{pick}
 use Rattle.entry.proofs.Entries.{read-written, other-slots}
-use Rattle.entry.specs.Entry.{decode, decodeAt, written}
+use Rattle.entry.specs.Entry.{decode, decodeAt}
 use Rattle.entry.specs.declared.Entry.{Entry}
 use Rattle.ranges.proofs.MachineLaws.{passes}
 use Rattle.rewind.proofs.Calls.{numberOf, reply, SoundDesk, lent-sound, op-keeps, op-called, back-none, back-some, op-sound, back-sound}
@@ -25,7 +25,7 @@ use Rattle.rewind.specs.Promise.{Sound, Rewound}
 use Rattle.rewind.specs.Rules.{Op, Typed, State, Done, obeyed, obeyedAll}
 use Rattle.rewind.specs.Run.{Call, operation, back, TypedCall, Reply, called, deed, run, deeds, stateOf}
 use Rattle.wram.specs.Olds.{putBack}
-use Rattle.wram.specs.Ranges.{FitBytes}
+use Rattle.common.specs.Width.{Bytes}
 
 -- an accepted operation, and the state that it met
 pub record Past : Type 0 where
@@ -39,7 +39,7 @@ abbrev pub ops : Trace → List Op
 ops [] = []
 ops (p ∷ ps) = p .op ∷ ops ps
 
-module _ (rom : List ℕ) (bytes : FitBytes rom) (small : length rom ≤ 4194304) (len : ℕ) (pos : 0 < len) (whole : len % 256 ≡ 0) where
+module _ (rom : List ℕ) (bytes : Bytes rom) (small : length rom ≤ 4194304) (len : ℕ) (pos : 0 < len) (whole : len % 256 ≡ 0) where
   abbrev pub cap : ℕ
   cap = len / 256
 

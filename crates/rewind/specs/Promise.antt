@@ -13,15 +13,15 @@ use Rattle.common.specs.Pick.{pick}
 use Rattle.rewind.specs.History.{survivors, keptOps}
 use Rattle.rewind.specs.Rules.{Op, obeyedAll}
 use Rattle.rewind.specs.Run.{Call, operation, back, TypedCall, called, run, deeds, stateOf}
-use Rattle.wram.specs.Ranges.{FitBytes}
+use Rattle.common.specs.Width.{Bytes}
 
 -- what is lent: a ROM that is not too long, two whole banks with any fill, a record of fresh's length; all of them bytes
 pub record Lent (rom low high entries : List ℕ) (length₀ : ℕ) : Type 0 where
-  pub rom-bytes : FitBytes rom
+  pub rom-bytes : Bytes rom
   pub rom-most : length rom ≤ 4194304
-  pub low-bytes : FitBytes low
+  pub low-bytes : Bytes low
   pub low-length : length low ≡ 65536
-  pub high-bytes : FitBytes high
+  pub high-bytes : Bytes high
   pub high-length : length high ≡ 65536
   pub entries-length : length entries ≡ length₀
 

@@ -7,7 +7,7 @@ use Rattle.bench.specs.Host.{withIo, padSet, plugSet, answerSet}
 use Rattle.bus.specs.Access.{opened}
 use Rattle.bus.specs.World.{World, readAt, writeAt}
 use Rattle.machine.specs.Cycle.{Turned, machineAfter, cycled}
-use Rattle.registers.specs.Fit.{Byte, Word}
+use Rattle.common.specs.Width.{Byte, Word}
 use Rattle.state.specs.declared.Machine.{Machine}
 use Rattle.wram.specs.Banks.{Banks}
 use Rattle.wram.specs.Olds.{noOlds}
@@ -41,9 +41,11 @@ pub record Done : Type 0 where
   pub state : State
   pub olds : Olds
 
+-- what a cycle leaves
 abbrev pub turned : Turned → Done
 turned t = record { state = record { machine = machineAfter t; ram = t .after .world .ram }; olds = t .after .world .core .olds }
 
+-- the world of the bus as an operation finds it
 abbrev pub world : State → World
 world s = record { core = opened (s .machine .io); ram = s .ram }
 
@@ -55,6 +57,7 @@ accessed s w = record { state = record { machine = withIo (s .machine) (w .core 
 abbrev pub changed : State → Machine → Done
 changed s m = record { state = record { machine = m; ram = s .ram }; olds = noOlds }
 
+-- an operation, by demand 2's rules
 unfoldable pub obeyed : List ℕ → Op → State → Done
 obeyed rom (cycle event line timer) s = turned (cycled rom (s .machine) (s .ram .low) (s .ram .high) (eventOf event) line timer)
 obeyed rom (read bank addr) s = accessed s (readAt rom (world s) bank addr .world)

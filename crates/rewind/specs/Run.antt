@@ -7,6 +7,7 @@ use Rattle.common.specs.Pick.{pick}
 use Rattle.rewind.specs.History.{Deed, did, struck, nothing}
 use Rattle.rewind.specs.Rules.{Op, cycle, read, write, pad, plug, answer, State, Typed}
 
+-- an operation or a back step
 pub data Call : Type 0 where
   operation : Op → Call
   back : Call
@@ -21,6 +22,7 @@ pub record Reply : Type 0 where
   pub number : ℕ
   pub desk : Desk
 
+-- each call by its own definition
 unfoldable pub called : List ℕ → Call → Desk → Reply
 called rom (operation (cycle event line timer)) d = let r = cycleCall rom d event line timer in record { number = r .number; desk = r .desk }
 called rom (operation (read bank addr)) d = let r = readCall rom d bank addr in record { number = r .number; desk = r .desk }
@@ -35,6 +37,7 @@ abbrev pub made : Call → Deed Op
 made (operation o) = did o
 made back = struck
 
+-- a refused call did nothing
 abbrev pub deed : Call → ℕ → Deed Op
 deed c number = pick (eqb number 0) (made c) nothing
 

@@ -4,14 +4,12 @@ use mathlib.Core.Bool.{Bool}
 use mathlib.Core.List.{List}
 use native.Mathlib.Omega.{arith}
 use Rattle.common.proofs.TableLaws.{pick-elim}
-use Rattle.bus.proofs.FitLaws.{read-fits, write-fits, channel-fits, with-channel-fits}
-use Rattle.bus.specs.Fit.{FitWorld, FitReading}
+use Rattle.bus.proofs.FitLaws.{read-fits, write-fits, channel-fits, with-channel-fits, FitWorld, FitReading}
 use Rattle.bus.specs.View.{channelOf, withCore}
 use Rattle.bus.specs.World.{World}
 use Rattle.bus.specs.declared.access.Core.{Core}
-use Rattle.registers.specs.Fit.{Word}
+use Rattle.common.specs.Width.{Word, Bytes}
 use Rattle.registers.specs.declared.channel.DmaChannel.{DmaChannel}
-use Rattle.wram.specs.Ranges.{FitBytes}
 use Rattle.transfer.specs.Bits.{flagOf}
 use Rattle.transfer.specs.Byte.{tripOf, moved, stepA1t, tripAt, transferByte}
 use Rattle.transfer.specs.Pattern.{offsetOf, unitLen, bAddress}
@@ -37,7 +35,7 @@ stored-fits {w} ch ind f h =
     let c = channel-fits f ch in
     pick-elim (λ (k : Core). FitWorld (withCore w k)) ind (with-channel-fits f ch (omega (arith, c))) (with-channel-fits f ch (omega (arith, c)))
 
-module _ (rom : List ℕ) (g : FitBytes rom) where
+module _ (rom : List ℕ) (g : Bytes rom) where
   moved-fits : {w : World} (t : Trip) → FitWorld w → Word (t .target .addr) → FitWorld (moved rom w t)
   unfolding moved
   moved-fits t f h =

@@ -1,3 +1,4 @@
+-- One byte, one HDMA unit and the bytes of a table.
 pub mod Bits
 pub mod Pattern
 pub mod Byte

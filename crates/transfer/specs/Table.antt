@@ -13,6 +13,7 @@ tableRead rom w ch =
     let c = channelOf (w .core) ch in
     readAt rom (withCore w (withChannel (w .core) ch (withDmaChannel-a2a c (up 65536 (c .a2a))))) (c .a1b) (c .a2a)
 
+-- DAS of a channel set
 abbrev pub setDas : World → ℕ → ℕ → World
 setDas w ch v = withCore w (withChannel (w .core) ch (withDmaChannel-das (channelOf (w .core) ch) v))
 

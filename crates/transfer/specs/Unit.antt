@@ -26,11 +26,13 @@ unitBytes rom c bank addr (suc n) w = unitByte rom c bank ((addr + n) % 65536) n
 unfoldable pub sourceOf : DmaChannel → Bool → SnesAddress
 sourceOf c ind = pick ind (record { bank = c .dasb; addr = c .das }) (record { bank = c .a1b; addr = c .a2a })
 
+-- the address behind the last byte goes back to where it came from
 unfoldable pub sourceStored : Core → ℕ → Bool → ℕ → Core
 sourceStored k ch ind addr =
     let c = channelOf k ch in
     pick ind (withChannel k ch (withDmaChannel-das c addr)) (withChannel k ch (withDmaChannel-a2a c addr))
 
+-- what a unit leaves, and how many bytes it moved
 pub record SentUnit : Type 0 where
   pub world : World
   pub bytes : ℕ
@@ -38,6 +40,7 @@ pub record SentUnit : Type 0 where
 abbrev pub sending : Sent → List ℕ → List ℕ → SentUnit
 sending s l h = record { world = world (s .core) l h; bytes = s .bytes }
 
+-- a unit from an address
 abbrev pub unitFrom : List ℕ → DmaChannel → SnesAddress → World → ℕ → Bool → SentUnit
 unitFrom rom c s w ch ind =
     let v = unitBytes rom c (s .bank) (s .addr) (unitLen (c .dmap)) w in

@@ -1,6 +1,6 @@
 use native.Mathlib.Nat.{lt-of-lt-of-le}
 use lib.Dec.{lit≤}
-use Rattle.common.specs.Range.{inside, below, above}
+use Rattle.common.proofs.RangeLaws.{inside, below, above}
 use Rattle.bench.specs.Host.{answerSet}
 use borrow.Author.Needs.{needs}
 use Rattle.bench.proofs.host.set_answer.Statement.{statement}

@@ -1,5 +1,5 @@
 use mathlib.Core.Path.{sym}
-use Rattle.common.specs.Table.{find-none}
+use Rattle.common.proofs.TableLaws.{find-none}
 use Rattle.bench.specs.Calls.{events}
 use Rattle.machine.specs.declared.event.Event.the-variants.{Nothing}
 use Rattle.bench.proofs.operate.event_of.Statement.{statement}

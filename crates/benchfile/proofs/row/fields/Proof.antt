@@ -1,5 +1,5 @@
 use mathlib.Core.Path.{sym, _∙_}
-use Rattle.common.specs.Table.{find-none}
+use Rattle.common.proofs.TableLaws.{find-none}
 use Rattle.benchfile.specs.declared.row.Row.the-variants.{Broken}
 use Rattle.benchfile.specs.Row.{fieldTable, fieldsOf}
 use borrow.Author.Needs.{needs}

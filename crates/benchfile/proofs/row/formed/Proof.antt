@@ -1,6 +1,6 @@
 use mathlib.Core.Path.{sym, _∙_}
 use mathlib.Core.Bool.{false}
-use Rattle.common.specs.Table.{find-none}
+use Rattle.common.proofs.TableLaws.{find-none}
 use Rattle.benchfile.specs.Row.{formTable, formedRow}
 use borrow.Author.Tests.{eq-eqb, ne-eqb}
 use borrow.Author.Needs.{needs}

@@ -1,11 +1,11 @@
 use mathlib.Core.Path.{sym}
-use Rattle.benchfile.proofs.Parts.{four-none}
+use Rattle.benchfile.proofs.Parts.{field-none, four-halves}
 use borrow.Author.Needs.{needs}
 use Rattle.benchfile.proofs.word.four.Statement.{statement}
 use Rattle.benchfile.proofs.word.four.Tie as tie
 
 returns : tie.Need-returns
-returns c = sym (four-none (c .before .before .args .s .now) _ (c .if1 .taken))
+returns c = sym (field-none 4 (c .before .before .args .s .now) _ (c .if1 .taken))
 
 two-requires : tie.Need-two-requires
 two-requires c κs = search needs
@@ -29,7 +29,7 @@ add-result : tie.Need-add-result
 add-result c = search needs
 
 returns-2 : tie.Need-returns-2
-returns-2 c = simp (c .two2 .ensures, c .before .two .ensures)
+returns-2 c = simp (c .two2 .ensures, c .before .two .ensures) (four-halves (c .before .before .before .before .args .s .now) (c .before .before .before .before .args .at))
 
 pub four-spec : {M : Type 1} → statement M
 four-spec =

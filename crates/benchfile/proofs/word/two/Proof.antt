@@ -1,11 +1,11 @@
 use mathlib.Core.Path.{sym}
-use Rattle.benchfile.proofs.Parts.{two-none}
+use Rattle.benchfile.proofs.Parts.{field-none, two-word}
 use borrow.Author.Needs.{needs}
 use Rattle.benchfile.proofs.word.two.Statement.{statement}
 use Rattle.benchfile.proofs.word.two.Tie as tie
 
 returns : tie.Need-returns
-returns c = sym (two-none (c .before .before .args .s .now) _ (c .if1 .taken))
+returns c = sym (field-none 2 (c .before .before .args .s .now) _ (c .if1 .taken))
 
 byte-requires : tie.Need-byte-requires
 byte-requires c κs = search needs
@@ -20,7 +20,7 @@ join-requires : tie.Need-join-requires
 join-requires c κs = search needs
 
 returns-2 : tie.Need-returns-2
-returns-2 c = simp (c .join .ensures, c .before .byte2 .ensures, c .before .before .byte .ensures)
+returns-2 c = simp (c .join .ensures, c .before .byte2 .ensures, c .before .before .byte .ensures) (two-word (c .before .before .before .before .before .args .s .now) (c .before .before .before .before .before .args .at))
 
 pub two-spec : {M : Type 1} → statement M
 two-spec =

@@ -7,7 +7,7 @@ use lib.Dec.{lit≤}
 use native.Mathlib.Omega.{arith}
 use borrow.Author.Tests.{ne-eqb}
 use borrow.Author.Needs.{needs}
-use Rattle.common.specs.Range.{inside, below, above}
+use Rattle.common.proofs.RangeLaws.{inside, below, above}
 use Rattle.bus.specs.Route.{system, routeOf}
 use Rattle.bus.proofs.route.route_of.Statement.{statement}
 use Rattle.bus.proofs.route.route_of.Tie as tie

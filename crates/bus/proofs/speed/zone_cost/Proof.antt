@@ -1,4 +1,4 @@
-use Rattle.common.specs.Range.{inside, below, above}
+use Rattle.common.proofs.RangeLaws.{inside, below, above}
 use Rattle.bus.proofs.speed.zone_cost.Statement.{statement}
 use Rattle.bus.proofs.speed.zone_cost.Tie as tie
 

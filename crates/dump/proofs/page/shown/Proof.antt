@@ -1,5 +1,5 @@
 use Rattle.dump.specs.Page.{shownOf}
-use Rattle.common.specs.Range.{inside, below, above}
+use Rattle.common.proofs.RangeLaws.{inside, below, above}
 use Rattle.dump.proofs.page.shown.Statement.{statement}
 use Rattle.dump.proofs.page.shown.Tie as tie
 

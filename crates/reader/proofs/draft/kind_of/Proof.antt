@@ -1,5 +1,5 @@
 use mathlib.Core.Path.{_≡_, sym}
-use Rattle.common.specs.Table.{find-none}
+use Rattle.common.proofs.TableLaws.{find-none}
 use Rattle.reader.specs.Draft.{keywords}
 use Rattle.reader.proofs.draft.kind_of.Statement.{statement}
 use Rattle.reader.proofs.draft.kind_of.Tie as tie

@@ -1,8 +1,8 @@
 use mathlib.Core.Path.{_≡_, sym}
-use Rattle.common.specs.Table.{find-none}
+use Rattle.common.proofs.TableLaws.{find-none}
 use native.Mathlib.Nat.{lt-of-lt-of-le, le-trans}
 use lib.Dec.{lit≤}
-use Rattle.common.specs.Range.{inside, below, above}
+use Rattle.common.proofs.RangeLaws.{inside, below, above}
 use Rattle.reader.specs.Letter.{digitOf}
 use borrow.Author.Needs.{needs}
 use Rattle.reader.proofs.letter.digit.Statement.{statement}

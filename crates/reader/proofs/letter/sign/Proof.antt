@@ -1,5 +1,5 @@
 use mathlib.Core.Path.{_≡_, sym}
-use Rattle.common.specs.Table.{find-none}
+use Rattle.common.proofs.TableLaws.{find-none}
 use Rattle.reader.specs.Letter.{signs, signOf}
 use Rattle.reader.proofs.letter.sign.Statement.{statement}
 use Rattle.reader.proofs.letter.sign.Tie as tie

@@ -1,5 +1,5 @@
 use mathlib.Core.Path.{_≡_, sym}
-use Rattle.common.specs.Table.{find-none}
+use Rattle.common.proofs.TableLaws.{find-none}
 use Rattle.reader.specs.Word.{afters}
 use Rattle.reader.proofs.word.after.Statement.{statement}
 use Rattle.reader.proofs.word.after.Tie as tie

@@ -1,6 +1,6 @@
 use Rattle.wording.proofs.Said.{said, told}
 use Rattle.wording.specs.Words.{pageWords, refusals, wordsOf}
-use Rattle.common.specs.Table.{find-none}
+use Rattle.common.proofs.TableLaws.{find-none}
 use borrow.Author.Needs.{needs}
 use Rattle.wording.proofs.words.Statement.{statement}
 use Rattle.wording.proofs.words.Tie as tie

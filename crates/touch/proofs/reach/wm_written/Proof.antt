@@ -1,5 +1,5 @@
 use mathlib.Core.Path.{_≡_, sym}
-use Rattle.common.specs.Table.{find-none}
+use Rattle.common.proofs.TableLaws.{find-none}
 use Rattle.touch.specs.Reach.{wmTable}
 use borrow.Author.Needs.{needs}
 use Rattle.touch.proofs.reach.wm_written.Statement.{statement}

@@ -1,6 +1,6 @@
 //! The oracle's programs. Run without arguments for the list.
 
-use oracle::{coverage, generator, listed, selfcheck, trace};
+use oracle::{coverage, generator, listed, moves, selfcheck, trace};
 use std::fs;
 use std::io::{self, Read, Write};
 use std::path::Path;
@@ -8,6 +8,7 @@ use std::process::ExitCode;
 
 const USAGE: &str = "usage:
   oracle trace [FILE]           print document 01's lines for a bench file (standard input if no FILE)
+  oracle moves [PLACE]          print the accesses of the bench file on standard input (docs/MOVES.md)
   oracle selfcheck SEED COUNT   random runs with back steps, COUNT accepted operations in all
   oracle make SEED COUNT DIR    write COUNT bench files and LIST (file name, kind) into DIR
   oracle one SEED INDEX         write one of these files to standard output
@@ -33,6 +34,8 @@ fn run(words: &[&str]) -> Result<(), String> {
     match *words {
         ["trace"] => show_trace(&read_input()?),
         ["trace", file] => show_trace(&fs::read(file).map_err(|error| format!("{file}: {error}"))?),
+        ["moves"] => show_moves(None),
+        ["moves", word] => show_moves(Some(place(word)?)),
         ["selfcheck", seed, count] => {
             let counts = selfcheck::selfcheck(number(seed)?, number(count)?)?;
             print(format!("seed {seed}: {counts}\n").as_bytes())
@@ -64,6 +67,14 @@ fn print(bytes: &[u8]) -> Result<(), String> {
 
 fn show_trace(file: &[u8]) -> Result<(), String> {
     print(trace::trace(file).as_bytes())
+}
+
+fn place(word: &str) -> Result<u32, String> {
+    moves::place(word).ok_or_else(|| format!("moves: `{word}`: expected a place from $7E:0000 to $7F:FFFF"))
+}
+
+fn show_moves(only: Option<u32>) -> Result<(), String> {
+    print(moves::moves(&read_input()?, only)?.as_bytes())
 }
 
 fn make(seed: u64, count: u64, folder: &Path) -> Result<(), String> {

@@ -12,6 +12,7 @@ pub mod layout;
 pub mod lent;
 pub mod listed;
 pub mod moves;
+pub mod page;
 pub mod random;
 pub mod ranges;
 pub mod record;

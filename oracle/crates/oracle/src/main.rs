@@ -1,6 +1,6 @@
 //! The oracle's programs. Run without arguments for the list.
 
-use oracle::{coverage, generator, listed, moves, selfcheck, trace};
+use oracle::{coverage, generator, listed, moves, page, selfcheck, trace};
 use std::fs;
 use std::io::{self, Read, Write};
 use std::path::Path;
@@ -9,6 +9,7 @@ use std::process::ExitCode;
 const USAGE: &str = "usage:
   oracle trace [FILE]           print document 01's lines for a bench file (standard input if no FILE)
   oracle moves [PLACE]          print the accesses of the bench file on standard input (docs/MOVES.md)
+  oracle page PLACE             show a page of work RAM after the bench file on standard input (docs/BENCH.md)
   oracle selfcheck SEED COUNT   random runs with back steps, COUNT accepted operations in all
   oracle make SEED COUNT DIR    write COUNT bench files and LIST (file name, kind) into DIR
   oracle one SEED INDEX         write one of these files to standard output
@@ -36,6 +37,7 @@ fn run(words: &[&str]) -> Result<(), String> {
         ["trace", file] => show_trace(&fs::read(file).map_err(|error| format!("{file}: {error}"))?),
         ["moves"] => show_moves(None),
         ["moves", word] => show_moves(Some(place(word)?)),
+        ["page", word] => print(page::page(&read_input()?, place(word)?).as_bytes()),
         ["selfcheck", seed, count] => {
             let counts = selfcheck::selfcheck(number(seed)?, number(count)?)?;
             print(format!("seed {seed}: {counts}\n").as_bytes())
@@ -70,7 +72,7 @@ fn show_trace(file: &[u8]) -> Result<(), String> {
 }
 
 fn place(word: &str) -> Result<u32, String> {
-    moves::place(word).ok_or_else(|| format!("moves: `{word}`: expected a place from $7E:0000 to $7F:FFFF"))
+    page::place(word).ok_or_else(|| format!("moves: `{word}`: expected a place from $7E:0000 to $7F:FFFF"))
 }
 
 fn show_moves(only: Option<u32>) -> Result<(), String> {

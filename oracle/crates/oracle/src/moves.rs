@@ -27,15 +27,6 @@ pub fn moves(file: &[u8], only: Option<u32>) -> Result<String, String> {
     Ok(listing.text)
 }
 
-/// The work RAM place of a word such as `$7E:1234` or `7E1234`.
-pub fn place(word: &str) -> Option<u32> {
-    let digits = word.strip_prefix('$').unwrap_or(word).replacen(':', "", 1);
-    let colon = word.find(':').is_none_or(|at| word.len() - at == 5);
-    let formed = colon && digits.len() == 6 && digits.bytes().all(|digit| digit.is_ascii_hexdigit());
-    let address = u32::from_str_radix(&digits, 16).ok().filter(|_| formed)?;
-    (0x7E_0000..0x80_0000).contains(&address).then(|| address - 0x7E_0000)
-}
-
 struct Listing {
     text: String,
     only: Option<u32>,

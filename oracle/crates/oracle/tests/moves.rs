@@ -1,7 +1,8 @@
 //! The lines of the program moves, each written down by hand from docs/MOVES.md.
 
 use oracle::benchfile::BenchFile;
-use oracle::moves::{moves, place};
+use oracle::moves::moves;
+use oracle::page::{page, place};
 use oracle::row::Row;
 
 fn file(fill: &[u8], rows: &[Row]) -> Vec<u8> {
@@ -127,4 +128,16 @@ fn places() {
     for word in ["", "$", "$7D:FFFF", "$80:0000", "$7E:123", "$7E12:34", "$7E::1234", "$$7E1234", "7E 1234", "+7E123"] {
         assert_eq!(place(word), None, "{word}");
     }
+}
+
+#[test]
+fn a_page_after_a_refused_row() {
+    let bytes = [b'H', b'i', 0x7F, 0x1F];
+    let mut rows: Vec<Row> = (0x10..).zip(bytes).map(|(addr, byte)| write(addr, byte)).collect();
+    rows.extend([Row::Back { count: 9 }, write(0x10, 1)]);
+    rows.splice(1..1, [Row::Plug { port: 2, value: 1 }]);
+    let text = page(&file(&[0x20], &rows), 0x00FF);
+    assert_eq!(text.len(), 16 * 78);
+    let second = "7E:0010  48 20 20 20 20 20 20 20  20 20 20 20 20 20 20 20  |H               |";
+    assert_eq!(text.lines().nth(1), Some(second));
 }

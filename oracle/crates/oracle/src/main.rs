@@ -36,8 +36,8 @@ fn run(words: &[&str]) -> Result<(), String> {
         ["trace"] => show_trace(&read_input()?),
         ["trace", file] => show_trace(&fs::read(file).map_err(|error| format!("{file}: {error}"))?),
         ["moves"] => show_moves(None),
-        ["moves", word] => show_moves(Some(place(word)?)),
-        ["page", word] => print(page::page(&read_input()?, place(word)?).as_bytes()),
+        ["moves", word] => show_moves(Some(place("moves", word)?)),
+        ["page", word] => print(page::page(&read_input()?, place("page", word)?).as_bytes()),
         ["selfcheck", seed, count] => {
             let counts = selfcheck::selfcheck(number(seed)?, number(count)?)?;
             print(format!("seed {seed}: {counts}\n").as_bytes())
@@ -71,8 +71,8 @@ fn show_trace(file: &[u8]) -> Result<(), String> {
     print(trace::trace(file).as_bytes())
 }
 
-fn place(word: &str) -> Result<u32, String> {
-    page::place(word).ok_or_else(|| format!("moves: `{word}`: expected a place from $7E:0000 to $7F:FFFF"))
+fn place(program: &str, word: &str) -> Result<u32, String> {
+    page::place(word).ok_or_else(|| format!("{program}: `{word}`: expected a place from $7E:0000 to $7F:FFFF"))
 }
 
 fn show_moves(only: Option<u32>) -> Result<(), String> {

@@ -59,6 +59,13 @@ fn with_rom(text: &[u8]) {
 }
 
 pub fn assemble() {
+    if os::arg_count() != 1 {
+        io::write_all(
+            STDERR_FILENO,
+            b"assemble: expected no argument: the text comes on standard input\n",
+        );
+        return;
+    }
     let mut text = [0u8; 524289];
     let n = io::read_full(STDIN_FILENO, &mut text);
     if !readable(STDIN_FILENO) {
@@ -88,6 +95,13 @@ fn listed(file: &[u8]) {
 }
 
 pub fn list() {
+    if os::arg_count() != 1 {
+        io::write_all(
+            STDERR_FILENO,
+            b"list: expected no argument: the bench file comes on standard input\n",
+        );
+        return;
+    }
     let mut file = [0u8; 65537];
     let n = io::read_full(STDIN_FILENO, &mut file);
     if !readable(STDIN_FILENO) {

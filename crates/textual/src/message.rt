@@ -2,6 +2,7 @@
 use crate::spot::spot_of;
 use append::put;
 use benchfile::part::part;
+use dump::page::signs;
 use io::decimal;
 use libc::STDERR_FILENO;
 use reader::draft::Draft;
@@ -73,7 +74,7 @@ fn number(out: &mut [u8], at: usize, n: u64) -> usize {
 // The word itself, in quotes; of a long one its first 64 characters.
 fn quoted(out: &mut [u8], at: usize, word: &[u8]) -> usize {
     let a = put(out, at, b"`");
-    let b = put(out, a, part(word, 0, 64));
+    let b = signs(out, a, part(word, 0, 64));
     put(out, b, b"`")
 }
 

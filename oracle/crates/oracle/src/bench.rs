@@ -31,6 +31,8 @@ pub struct Step<'a> {
     pub after: &'a Machine,
     /// All zero unless the call is a cycle.
     pub cycle: &'a Cycle,
+    /// All zero unless the call is a read or a write.
+    pub moved: &'a Moved,
     /// The bytes of the entry written, or of the one that a back step struck; none if refused.
     pub entry: &'a [u8],
 }
@@ -74,14 +76,15 @@ impl Bench {
     /// A row that is one call.
     pub fn call(&mut self, call: Row, watch: &mut dyn FnMut(Step)) -> RowAnswer {
         let before = self.machine.image;
-        let mut cycle = Cycle::default();
-        let answer = self.answer(call, &mut cycle);
+        let (mut cycle, mut moved) = Default::default();
+        let answer = self.answer(call, &mut cycle, &mut moved);
         watch(Step {
             call,
             number: answer.number,
             before: &before,
             after: &self.machine,
             cycle: &cycle,
+            moved: &moved,
             entry: if answer.number == 0 { self.touched_entry(call) } else { &[] },
         });
         answer
@@ -95,18 +98,21 @@ impl Bench {
         &self.record[slot as usize * ENTRY_SIZE..][..ENTRY_SIZE]
     }
 
-    fn answer(&mut self, call: Row, cycle: &mut Cycle) -> RowAnswer {
+    fn answer(&mut self, call: Row, cycle: &mut Cycle, moved: &mut Moved) -> RowAnswer {
         let machine = &mut self.machine;
         let lent = &mut Lent { banks: &mut self.banks, record: &mut self.record, rom: &self.rom };
         let number = |number| RowAnswer { number, a: 0, b: 0 };
-        let moved = |moved: Moved| RowAnswer { number: moved.number, a: moved.byte.into(), b: moved.cost.into() };
+        let mut access = |answer: Moved| {
+            *moved = answer;
+            RowAnswer { number: answer.number, a: answer.byte.into(), b: answer.cost.into() }
+        };
         match call {
             Row::Cycles { event, flags, .. } => {
                 *cycle = calls::cycle(machine, lent, event, flags & 1 != 0, flags & 2 != 0);
                 RowAnswer { number: cycle.number, a: 0, b: cycle.held.into() }
             }
-            Row::Read { bank, addr } => moved(calls::read(machine, lent, bank, addr)),
-            Row::Write { bank, addr, byte } => moved(calls::write(machine, lent, bank, addr, byte)),
+            Row::Read { bank, addr } => access(calls::read(machine, lent, bank, addr)),
+            Row::Write { bank, addr, byte } => access(calls::write(machine, lent, bank, addr, byte)),
             Row::Pad { port, word } => number(calls::pad(machine, lent, port, word)),
             Row::Plug { port, value } => number(calls::plug(machine, lent, port, value != 0)),
             Row::Answer { addr, byte } => number(calls::answer(machine, lent, addr, byte)),

@@ -16,6 +16,8 @@ pub struct Cycle {
     pub count: usize,
     /// In order; places from `count` on are zero.
     pub accesses: [Access; MOST_ACCESSES],
+    /// The work RAM place that each access reached.
+    pub places: [Option<u32>; MOST_ACCESSES],
 }
 
 /// A write answers byte 0.
@@ -24,6 +26,8 @@ pub struct Moved {
     pub number: u8,
     pub byte: u8,
     pub cost: u32,
+    /// The work RAM place that was reached.
+    pub place: Option<u32>,
 }
 
 pub fn fresh(record_length: u64, bit_cycles: u64) -> (u8, Machine) {
@@ -41,7 +45,8 @@ pub fn cycle(machine: &mut Machine, lent: &mut Lent, event: u8, line_due: bool, 
     }
     operate(machine, lent, |core| {
         let (held, nmi) = core.update(EVENTS[usize::from(event)], line_due, timer_hit);
-        Cycle { number, held, nmi, count: core.bus.log.count, accesses: core.bus.log.accesses }
+        let log = &core.bus.log;
+        Cycle { number, held, nmi, count: log.count, accesses: log.accesses, places: log.places }
     })
 }
 
@@ -52,7 +57,7 @@ pub fn read(machine: &mut Machine, lent: &mut Lent, bank: u8, addr: u16) -> Move
     }
     operate(machine, lent, |core| {
         let (byte, speed) = core.bus.read(SnesAddress { bank, addr }, &mut core.ppu, &mut core.apu);
-        Moved { number, byte, cost: speed.cycles() }
+        Moved { number, byte, cost: speed.cycles(), place: core.bus.log.places[0] }
     })
 }
 
@@ -63,7 +68,7 @@ pub fn write(machine: &mut Machine, lent: &mut Lent, bank: u8, addr: u16, byte: 
     }
     operate(machine, lent, |core| {
         let speed = core.bus.write(SnesAddress { bank, addr }, byte, &mut core.ppu, &mut core.apu);
-        Moved { number, byte: 0, cost: speed.cycles() }
+        Moved { number, byte: 0, cost: speed.cycles(), place: core.bus.log.places[0] }
     })
 }
 

@@ -11,6 +11,8 @@ pub mod image;
 pub mod layout;
 pub mod lent;
 pub mod listed;
+pub mod moves;
+pub mod page;
 pub mod random;
 pub mod ranges;
 pub mod record;

@@ -1,6 +1,6 @@
 //! The oracle's programs. Run without arguments for the list.
 
-use oracle::{coverage, generator, listed, selfcheck, trace};
+use oracle::{coverage, generator, listed, moves, page, selfcheck, trace};
 use std::fs;
 use std::io::{self, Read, Write};
 use std::path::Path;
@@ -8,6 +8,8 @@ use std::process::ExitCode;
 
 const USAGE: &str = "usage:
   oracle trace [FILE]           print document 01's lines for a bench file (standard input if no FILE)
+  oracle moves [PLACE]          print the accesses of the bench file on standard input (docs/MOVES.md)
+  oracle page PLACE             show a page of work RAM after the bench file on standard input (docs/BENCH.md)
   oracle selfcheck SEED COUNT   random runs with back steps, COUNT accepted operations in all
   oracle make SEED COUNT DIR    write COUNT bench files and LIST (file name, kind) into DIR
   oracle one SEED INDEX         write one of these files to standard output
@@ -33,6 +35,9 @@ fn run(words: &[&str]) -> Result<(), String> {
     match *words {
         ["trace"] => show_trace(&read_input()?),
         ["trace", file] => show_trace(&fs::read(file).map_err(|error| format!("{file}: {error}"))?),
+        ["moves"] => show_moves(None),
+        ["moves", word] => show_moves(Some(place("moves", word)?)),
+        ["page", word] => print(page::page(&read_input()?, place("page", word)?).as_bytes()),
         ["selfcheck", seed, count] => {
             let counts = selfcheck::selfcheck(number(seed)?, number(count)?)?;
             print(format!("seed {seed}: {counts}\n").as_bytes())
@@ -64,6 +69,14 @@ fn print(bytes: &[u8]) -> Result<(), String> {
 
 fn show_trace(file: &[u8]) -> Result<(), String> {
     print(trace::trace(file).as_bytes())
+}
+
+fn place(program: &str, word: &str) -> Result<u32, String> {
+    page::place(word).ok_or_else(|| format!("{program}: `{word}`: expected a place from $7E:0000 to $7F:FFFF"))
+}
+
+fn show_moves(only: Option<u32>) -> Result<(), String> {
+    print(moves::moves(&read_input()?, only)?.as_bytes())
 }
 
 fn make(seed: u64, count: u64, folder: &Path) -> Result<(), String> {

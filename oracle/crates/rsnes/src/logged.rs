@@ -30,14 +30,17 @@ pub struct OldByte {
 #[derive(Default)]
 pub struct Log {
     pub accesses: [Access; MOST_ACCESSES],
+    /// For each access the work RAM place it reached, $7E first.
+    pub places: [Option<u32>; MOST_ACCESSES],
     pub count: usize,
     pub old_bytes: [OldByte; MOST_OLD_BYTES],
     pub old_count: usize,
 }
 
 impl Log {
-    fn note(&mut self, access: Access) {
+    fn note(&mut self, access: Access, place: Option<usize>) {
         self.accesses[self.count] = access;
+        self.places[self.count] = place.map(|place| place as u32);
         self.count += 1;
     }
 
@@ -62,27 +65,29 @@ impl LoggedBus {
     }
 
     pub fn read(&mut self, addr: SnesAddress, ppu: &mut PPU, apu: &mut Apu) -> (u8, AccessSpeed) {
+        let place = self.place(addr);
         let (byte, speed) = self.bus.read(addr, ppu, apu);
-        self.log.note(Access { write: false, bank: addr.bank, addr: addr.addr, byte });
+        self.log.note(Access { write: false, bank: addr.bank, addr: addr.addr, byte }, place);
         (byte, speed)
     }
 
     pub fn write(&mut self, addr: SnesAddress, byte: u8, ppu: &mut PPU, apu: &mut Apu) -> AccessSpeed {
-        if let Some(place) = self.place_written(addr) {
+        let place = self.place(addr);
+        if let Some(place) = place {
             self.log.keep(place, self.bus.wram.data[place]);
         }
-        self.log.note(Access { write: true, bank: addr.bank, addr: addr.addr, byte });
+        self.log.note(Access { write: true, bank: addr.bank, addr: addr.addr, byte }, place);
         self.bus.write(addr, byte, ppu, apu)
     }
 
-    /// The work RAM place that a write to this address changes, $7E first.
-    fn place_written(&self, addr: SnesAddress) -> Option<usize> {
+    /// The work RAM place that an access of this address reaches now, $7E first.
+    fn place(&self, addr: SnesAddress) -> Option<usize> {
         let system = matches!(addr.bank, 0x00..=0x3F | 0x80..=0xBF);
         match addr.addr {
             _ if addr.bank == 0x7E => Some(addr.addr.into()),
             _ if addr.bank == 0x7F => Some(0x10000 + usize::from(addr.addr)),
             0x0000..0x2000 if system => Some(addr.addr.into()),
-            0x2180 if system => self.place_written(self.bus.io.wmadd.to_snes_addr()),
+            0x2180 if system => self.place(self.bus.io.wmadd.to_snes_addr()),
             _ => None,
         }
     }

@@ -1,8 +1,8 @@
 // What is wrong, in one line on standard error.
+use append::number::decimal;
 use append::put;
 use benchfile::part::part;
 use dump::page::signs;
-use io::decimal;
 use libc::STDERR_FILENO;
 
 // The table of refusals (document 01) in words.
@@ -27,18 +27,12 @@ fn words(out: &mut [u8], at: usize, number: u8) -> usize {
     }
 }
 
-fn number(out: &mut [u8], at: usize, n: u64) -> usize {
-    let mut digits = [0u8; 20];
-    let k = decimal(n, &mut digits);
-    put(out, at, &digits[..k])
-}
-
 fn who(out: &mut [u8], at: usize, row: usize) -> usize {
     if row == 0 {
         return put(out, at, b"page: standard input");
     }
     let a = put(out, at, b"page: row ");
-    number(out, a, row as u64)
+    decimal(out, a, row as u64)
 }
 
 // `page: row 3: refusal 8: back with no operation kept`
@@ -46,7 +40,7 @@ pub fn refused(row: usize, refusal: u8) {
     let mut out = [0u8; 128];
     let a = who(&mut out, 0, row);
     let b = put(&mut out, a, b": refusal ");
-    let c = number(&mut out, b, refusal as u64);
+    let c = decimal(&mut out, b, refusal as u64);
     let d = put(&mut out, c, b": ");
     let e = words(&mut out, d, refusal);
     let f = put(&mut out, e, b"\n");

@@ -16,17 +16,18 @@ use Rattle.append.specs.Sheet.{Sheet, puts}
 use Rattle.append.specs.Number.{decimalIn, decimal, padded}
 use Rattle.append.proofs.Laws.{then}
 
--- k digits are at most k bytes
-either : (t : Bool) (a b : List ℕ) (k : ℕ) → length a ≤ k → length b ≤ k → length (pick t a b) ≤ k
-either true a b k p q = p
-either false a b k p q = q
+-- either of two short texts
+pub either : (k : ℕ) (t : Bool) (a b : List ℕ) → length a ≤ k → length b ≤ k → length (pick t a b) ≤ k
+either k true a b p q = p
+either k false a b p q = q
 
+-- k digits are at most k bytes
 most-in : (k n : ℕ) → length (decimalIn k n) ≤ k
 unfolding decimalIn
 most-in zero n = omega arith
 most-in (suc k) n =
     let h = most-in k (n / 10) in
-    either (ltb n 10) _ _ (suc k) (omega arith) (simp length-append (omega arith))
+    either (suc k) (ltb n 10) _ _ (omega arith) (simp length-append (omega arith))
 
 pub most : (n : ℕ) → length (decimal n) ≤ 20
 unfolding decimal
@@ -42,7 +43,7 @@ short-in (suc f) zero n h =
 short-in (suc f) (suc k) n h =
     let p : n < 10 * 10 ^ suc k = rw pow-succ' at h in
     let q = short-in f k (n / 10) (omega arith) in
-    either (ltb n 10) _ _ (suc (suc k)) (omega arith) (simp length-append (omega arith))
+    either (suc (suc k)) (ltb n 10) _ _ (omega arith) (simp length-append (omega arith))
 
 pub short : (k n : ℕ) → n < 10 ^ suc k → length (decimal n) ≤ suc k
 unfolding decimal

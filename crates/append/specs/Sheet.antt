@@ -9,6 +9,7 @@ pub record Sheet : Type 0 where
   pub text : List ℕ
   pub at : ℕ
 
+-- by its fields
 abbrev pub sheet : List ℕ → ℕ → Sheet
 sheet l n = record { text = l; at = n }
 

@@ -10,12 +10,10 @@ use Rattle.append.specs.Sheet.{Sheet, sheet, puts, shownOf}
 use Rattle.append.proofs.Laws.{then}
 use Rattle.reader.specs.declared.reader.Reader.{Reader}
 use Rattle.reader.specs.Reader.{startOf, readOf}
-use Rattle.assembler.specs.Desk.{State, frontOf, romOf, scriptOf, stepped, runs, opened, gathered}
-use Rattle.assembler.specs.Bind.{sizeOf, fillSize, contentsText, bound}
+use Rattle.benchfile.specs.Build.{contentsOf}
+use Rattle.assembler.specs.Desk.{State, made, frontOf, romOf, scriptOf, stepped, runs, opened, gathered}
+use Rattle.assembler.specs.Bind.{sizeOf, fillSize, bound}
 use Rattle.assembler.specs.Assemble.{readyOf, checked, finished, said, left, assembled}
-
-abbrev made : Reader → Sheet → Sheet → Sheet → State
-made r f o s = record { reader = r; front = f; rom = o; script = s }
 
 pub stepped-by : (file : List ℕ) (k : State) (c : ℕ) {r : Reader} {f o s : Sheet} → r ≡ readOf (k .reader) c
     → f ≡ puts (k .front) (frontOf (r .draft)) → o ≡ puts (k .rom) (romOf file (r .draft)) → s ≡ puts (k .script) (scriptOf (r .draft))
@@ -40,11 +38,11 @@ runs-end file k l i h = rw (drop-of-length-le l h)
 
 -- contents, settings and fill, ROM, script
 pub bound-by : (s : Sheet) {t u v w : Sheet} (front rom script : List ℕ) {x y z : ℕ} → x ≡ fillSize (length front)
-    → y ≡ sizeOf (length rom) → z ≡ sizeOf (length script) → t ≡ puts s (contentsText x y z) → u ≡ puts t front → v ≡ puts u rom
+    → y ≡ sizeOf (length rom) → z ≡ sizeOf (length script) → t ≡ puts s (contentsOf 2 x y z) → u ≡ puts t front → v ≡ puts u rom
     → w ≡ puts v script → w ≡ puts s (bound front rom script)
 unfolding bound
 bound-by s front rom script {x} {y} {z} ex ey ez p q r e =
-    then s (contentsText x y z) (front ++ (rom ++ script)) p (then _ front (rom ++ script) q (then _ rom script r e))
+    then s (contentsOf 2 x y z) (front ++ (rom ++ script)) p (then _ front (rom ++ script) q (then _ rom script r e))
     ∙ simp (ex, ey, ez)
 
 -- the bound file, checked

@@ -1,4 +1,4 @@
--- The text of a bench file to the file.
+-- The bench file that a text (docs/BENCH.md) says.
 use Prim.Native.Nat.{ℕ}
 use mathlib.Core.Bool.{Bool, not, _&&_}
 use mathlib.Core.List.{List}

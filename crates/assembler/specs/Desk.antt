@@ -1,4 +1,4 @@
--- The bytes that a text says, gathered in three buffers: settings and fill, ROM, script.
+-- The bytes that a text (docs/BENCH.md) says, gathered in three buffers: settings and fill, ROM, script.
 use Prim.Native.Nat.{ℕ}
 use mathlib.Core.List.{List, [], _∷_}
 use Rattle.common.specs.Table.{find, at}
@@ -20,33 +20,37 @@ romOf file d = find (at 4 file ∷ at 5 (d .b1 ∷ []) ∷ []) (d .emit) []
 unfoldable pub scriptOf : Draft → List ℕ
 scriptOf d = find (at 3 (d .kind ∷ d .b1 ∷ d .b2 ∷ d .b3 ∷ d .b4 ∷ 0 ∷ 0 ∷ 0 ∷ []) ∷ []) (d .emit) []
 
+-- the reader, and the three buffers
 pub record State : Type 0 where
   pub reader : Reader
   pub front : Sheet
   pub rom : Sheet
   pub script : Sheet
 
+-- by its fields
+abbrev pub made : Reader → Sheet → Sheet → Sheet → State
+made r f o s = record { reader = r; front = f; rom = o; script = s }
+
+-- the same, of the code's Desk and the buffers lent with it
 abbrev pub state : Desk → List ℕ → List ℕ → List ℕ → State
-state k f r s =
-    record { reader = k .reader; front = sheet f (k .front); rom = sheet r (k .rom); script = sheet s (k .script) }
+state k f r s = made (k .reader) (sheet f (k .front)) (sheet r (k .rom)) (sheet s (k .script))
 
--- one character more; file is the ROM file
+-- with what r completes added; file is the ROM file
+abbrev pub added : List ℕ → Sheet → Sheet → Sheet → Reader → State
+added file f o s r = made r (puts f (frontOf (r .draft))) (puts o (romOf file (r .draft))) (puts s (scriptOf (r .draft)))
+
+-- one character more
 unfoldable pub stepped : List ℕ → State → ℕ → State
-stepped file s c =
-    record {
-      reader = readOf (s .reader) c;
-      front = puts (s .front) (frontOf (readOf (s .reader) c .draft));
-      rom = puts (s .rom) (romOf file (readOf (s .reader) c .draft));
-      script = puts (s .script) (scriptOf (readOf (s .reader) c .draft));
-    }
+stepped file k c = added file (k .front) (k .rom) (k .script) (readOf (k .reader) c)
 
+-- all characters of a text
 unfoldable pub runs : List ℕ → State → List ℕ → State
 runs file s [] = s
 runs file s (c ∷ t) = runs file (stepped file s c) t
 
 -- before the first character
 abbrev pub opened : List ℕ → List ℕ → List ℕ → State
-opened f r s = record { reader = startOf; front = sheet f 0; rom = sheet r 0; script = sheet s 0 }
+opened f r s = made startOf (sheet f 0) (sheet r 0) (sheet s 0)
 
 -- the whole text, with a line feed behind it
 unfoldable pub gathered : List ℕ → State → List ℕ → State

@@ -2,8 +2,9 @@
 ghost use mathlib.Core.Path.{_≡_};
 ghost use denote.Ref.{now};
 ghost use Rattle.append.specs.Sheet.{sheet, puts};
+ghost use Rattle.benchfile.specs.Build.{contentsOf};
 ghost use Rattle.fields.specs.Little.{le};
-ghost use Rattle.assembler.specs.Bind.{sizeOf, fillSize, headOf, contentsText, bound};
+ghost use Rattle.assembler.specs.Bind.{sizeOf, fillSize, headOf, bound};
 use append::put;
 
 // A length as a file can hold it; a longer body makes no file.
@@ -41,8 +42,9 @@ fn head(out: &mut [u8], at: usize, start: u32, length: u32) -> usize
     put(out, a, &n)
 }
 
+// The contents, with settings of 2 bytes.
 fn contents(out: &mut [u8], fill: u16, rom: u16, script: u16) -> usize
-    ensures { λ r. ⌜ sheet (now (out .exit)) r ≡ puts (sheet (now (out .entry)) 0) (contentsText fill rom script) ⌝ }
+    ensures { λ r. ⌜ sheet (now (out .exit)) r ≡ puts (sheet (now (out .entry)) 0) (contentsOf 2 fill rom script) ⌝ }
 {
     let a = head(out, 0, 32, 2);
     let b = head(out, a, 34, fill as u32);

@@ -13,8 +13,8 @@ use Rattle.reader.specs.declared.reader.Reader.{Reader}
 use Rattle.reader.specs.Draft.{draft}
 use Rattle.reader.specs.Reader.{readOf, reads}
 use Rattle.lister.specs.Row.{rowText}
-use Rattle.assembler.specs.Desk.{State, frontOf, romOf, scriptOf, stepped, runs}
-use Rattle.bothways.proofs.Quietly.{quietly, made, added, quietly-reads, quietly-runs}
+use Rattle.assembler.specs.Desk.{State, frontOf, romOf, scriptOf, stepped, runs, made, added}
+use Rattle.bothways.proofs.Quietly.{quietly, quietly-reads, quietly-runs}
 use Rattle.bothways.proofs.Rows.{Open, before}
 use Rattle.bothways.proofs.Row.{row-quiet, row-added}
 

@@ -15,9 +15,9 @@ use Rattle.reader.specs.Line.{fitsOf, numberOf, takenOf, closingOf, lineOf}
 use Rattle.reader.specs.Reader.{reader, shutOf, spacedOf, plainOf, stepOf, readOf}
 use Rattle.append.specs.Number.{glyphOf, hexes}
 use Rattle.lister.specs.Body.{bytesText, fillWord, romWord}
-use Rattle.assembler.specs.Desk.{State, frontOf, romOf, scriptOf, stepped, runs}
+use Rattle.assembler.specs.Desk.{State, frontOf, romOf, scriptOf, stepped, runs, made, added}
 use Rattle.assembler.proofs.Join.{runs-append}
-use Rattle.bothways.proofs.Quietly.{quietly, made, added, quietly-runs}
+use Rattle.bothways.proofs.Quietly.{quietly, quietly-runs, one}
 use Rattle.bothways.proofs.Digits.{byte-2}
 use Rattle.bothways.proofs.Rows.{before}
 
@@ -115,10 +115,6 @@ dollar fill x = refl
 dollar rom x = refl
 
 module _ (file : List ℕ) (b : Section) (f o s : Sheet) where
-  one : (r : Reader) (c : ℕ) → stepped file (made r f o s) c ≡ added file f o s (readOf r c)
-  unfolding stepped
-  one r c = refl
-
   -- an unfinished byte adds nothing
   pub nothing : (x y : ℕ) (i : Bool) → added file f o s (byteRead b i x y) ≡ made (byteRead b i x y) f o s
   unfolding frontOf romOf scriptOf puts
@@ -155,10 +151,10 @@ module _ (file : List ℕ) (b : Section) (i : Bool) (f o s : Sheet) (x y z : ℕ
   image = puts o (toRom b (x ∷ []))
 
   at-space : stepped file (made (byteRead b i x y) f o s) 32 ≡ made (spacedRead b x) front image s
-  at-space = one file b f o s (byteRead b i x y) 32 ∙ ap (added file f o s) (space x y lx b i) ∙ gain-space file b f o s x
+  at-space = one file f o s (byteRead b i x y) 32 ∙ ap (added file f o s) (space x y lx b i) ∙ gain-space file b f o s x
 
   at-dollar : stepped file (made (spacedRead b x) front image s) 36 ≡ added file front image s (dollarRead b x)
-  at-dollar = one file b front image s (spacedRead b x) 36 ∙ ap (added file front image s) (dollar b x)
+  at-dollar = one file front image s (spacedRead b x) 36 ∙ ap (added file front image s) (dollar b x)
 
   next-byte : runs file (made (byteRead b i x y) f o s) (32 ∷ 36 ∷ glyphOf (z / 16) ∷ glyphOf z ∷ t)
       ≡ runs file (made (byteRead b false z x) front image s) t
@@ -181,7 +177,7 @@ pub bytes-run : (file : List ℕ) (b : Section) (i : Bool) (f o s : Sheet) (x y 
     → runs file (made (byteRead b i x y) f o s) (bytesText l ++ (10 ∷ [])) ≡ gained b (lineRead b (lastOf x l)) f o s (x ∷ l)
 unfolding hexes runs
 bytes-run file b i f o s x y [] h =
-    one file b f o s (byteRead b i x y) 10 ∙ ap (added file f o s) (end x y (h .0) b i) ∙ gain-line file b f o s x
+    one file f o s (byteRead b i x y) 10 ∙ ap (added file f o s) (end x y (h .0) b i) ∙ gain-line file b f o s x
 bytes-run file b i f o s x y (z ∷ l) h =
     next-byte file b i f o s x y z (h .0) (h .1 .0) (bytesText l ++ (10 ∷ []))
     ∙ bytes-run file b false (puts f (toFront b (x ∷ []))) (puts o (toRom b (x ∷ []))) s z x l (h .1)

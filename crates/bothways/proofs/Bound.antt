@@ -1,7 +1,7 @@
 -- Bodies bound are the file that is built of them, and a buffer with room shows what was put into it.
 use Prim.Native.Nat.{ℕ, _+_, _-_, _≤_, _<_}
 use mathlib.Core.List.{List, _++_, append-assoc}
-use mathlib.Core.Path.{_≡_, refl}
+use mathlib.Core.Path.{_≡_}
 use native.Mathlib.Omega.{arith}
 use lib.ListN.{length, replicate, length-append, length-replicate}
 use borrow.Author.Tests.{lt-ltb, le-ltb}
@@ -9,7 +9,7 @@ use Rattle.append.specs.Sheet.{Sheet, sheet, puts, shownOf}
 use Rattle.append.proofs.Laws.{puts-room}
 use Rattle.benchfile.specs.File.{fileCheck}
 use Rattle.benchfile.specs.Build.{contentsOf, build}
-use Rattle.assembler.specs.Bind.{sizeOf, fillSize, headOf, contentsText, bound}
+use Rattle.assembler.specs.Bind.{sizeOf, fillSize, bound}
 use Rattle.assembler.specs.Assemble.{checked, finished}
 
 -- fresh buffers
@@ -17,10 +17,6 @@ pub kept : (n : ℕ) (l : List ℕ) → length l ≤ n → shownOf (puts (sheet 
 kept n l h =
     let room : 0 + length l ≤ length {A = ℕ} (replicate n 0) = rw (length-replicate {A = ℕ} n 0) (omega arith) in
     puts-room l (replicate n 0) 0 room .0
-
-contents : (b c d : ℕ) → contentsText b c d ≡ contentsOf 2 b c d
-unfolding contentsText headOf contentsOf
-contents b c d = refl
 
 size-small : (n : ℕ) → n < 65536 → sizeOf n ≡ n
 unfolding sizeOf
@@ -45,7 +41,7 @@ module _ (a b c d : List ℕ) where
       let lb : length b < 65536 = omega arith in
       let lc : length c < 65536 = omega arith in
       let ld : length d < 65536 = omega arith in
-      rw (length-append, two, fill-small (length b) lb, size-small (length c) lc, size-small (length d) ld, contents (length b) (length c) (length d))
+      rw (length-append, two, fill-small (length b) lb, size-small (length c) lc, size-small (length d) ld)
       (simp append-assoc)
 
 -- a file that file check accepts stays, where there is room

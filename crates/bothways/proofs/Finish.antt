@@ -9,9 +9,8 @@ use Rattle.append.specs.Sheet.{Sheet, sheet, puts}
 use Rattle.reader.specs.Letter.{signOf}
 use Rattle.reader.specs.Line.{lineOf}
 use Rattle.reader.specs.Reader.{shutOf, stepOf, readOf}
-use Rattle.assembler.specs.Desk.{State, frontOf, romOf, scriptOf, stepped}
+use Rattle.assembler.specs.Desk.{State, frontOf, romOf, scriptOf, stepped, made}
 use Rattle.assembler.specs.Assemble.{readyOf, finished, left}
-use Rattle.bothways.proofs.Quietly.{made}
 use Rattle.bothways.proofs.Rows.{Open, fill, rom, rows, before}
 use Rattle.bothways.proofs.Lines.{Scripted}
 use Rattle.bothways.proofs.Bound.{kept}

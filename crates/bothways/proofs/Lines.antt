@@ -24,9 +24,9 @@ use Rattle.append.specs.Number.{glyphOf, hexes}
 use Rattle.lister.specs.Body.{bytesText, lineText, linesFrom, linesText}
 use Rattle.lister.specs.Row.{rowText}
 use Rattle.lister.specs.List.{rowsText, scriptText}
-use Rattle.assembler.specs.Desk.{State, runs}
+use Rattle.assembler.specs.Desk.{State, runs, made}
 use Rattle.assembler.proofs.Join.{runs-append}
-use Rattle.bothways.proofs.Quietly.{quietly, made}
+use Rattle.bothways.proofs.Quietly.{quietly}
 use Rattle.bothways.proofs.Digits.{byte-2}
 use Rattle.bothways.proofs.Rows.{Open, rows, before}
 use Rattle.bothways.proofs.Between.{Rest, line-runs, row-line}

@@ -12,7 +12,7 @@ use Rattle.reader.specs.declared.reader.Reader.{Reader}
 use Rattle.reader.specs.Word.{blankWord}
 use Rattle.reader.specs.Draft.{draft}
 use Rattle.reader.specs.Reader.{reader, readOf, reads}
-use Rattle.assembler.specs.Desk.{State, frontOf, romOf, scriptOf, stepped, runs}
+use Rattle.assembler.specs.Desk.{State, made, frontOf, romOf, scriptOf, added, stepped, runs}
 
 -- no reader of a text is this: nothing emits 8
 abbrev pub loud : Reader
@@ -27,12 +27,10 @@ unfoldable pub quietly : Reader → List ℕ → Reader
 quietly r [] = r
 quietly r (c ∷ t) = pick (calm r) (quietly (readOf r c) t) loud
 
-abbrev pub made : Reader → Sheet → Sheet → Sheet → State
-made r f o s = record { reader = r; front = f; rom = o; script = s }
-
--- with what r completes added
-abbrev pub added : List ℕ → Sheet → Sheet → Sheet → Reader → State
-added file f o s r = made r (puts f (frontOf (r .draft))) (puts o (romOf file (r .draft))) (puts s (scriptOf (r .draft)))
+-- a character adds what it completes
+pub one : (file : List ℕ) (f o s : Sheet) (r : Reader) (c : ℕ) → stepped file (made r f o s) c ≡ added file f o s (readOf r c)
+unfolding stepped
+one file f o s r c = refl
 
 module _ (q : Reader) (fine : eqb (q .draft .emit) 8 ≡ false) where
   -- loud is not fine
@@ -55,17 +53,13 @@ module _ (q : Reader) (fine : eqb (q .draft .emit) 8 ≡ false) where
     unfolding frontOf romOf scriptOf puts
     silent r e = rw e
 
-    one : (r : Reader) (c : ℕ) → stepped file (made r f o s) c ≡ added file f o s (readOf r c)
-    unfolding stepped
-    one r c = refl
-
     quiet-run : (r : Reader) (c : ℕ) (t : List ℕ) (b : Bool) → calm r ≡ b
         → (quietly (readOf r c) t ≡ q → runs file (added file f o s (readOf r c)) t ≡ added file f o s q)
         → pick b (quietly (readOf r c) t) loud ≡ q
         → runs file (stepped file (added file f o s r) c) t ≡ added file f o s q
     quiet-run r c t true z ih e =
         ap (λ (k : State). runs file (stepped file k c) t) (silent r (eqb-true (r .draft .emit) 0 (both (eqb (r .draft .emit) 0) (not (eqb (r .word .form) 8)) z .0)))
-        ∙ ap (λ (k : State). runs file k t) (one r c)
+        ∙ ap (λ (k : State). runs file k t) (one file f o s r c)
         ∙ ih e
     quiet-run r c t false z ih e = not-loud e
 

@@ -1,6 +1,5 @@
 -- How long the text of a file can be: the buffers of the programs have room for it.
 use Prim.Native.Nat.{ℕ, zero, suc, _+_, _*_, _/_, _≤_, _<_}
-use mathlib.Core.Bool.{Bool, true, false}
 use mathlib.Core.List.{List, [], _∷_}
 use mathlib.Core.Path.{_≡_, refl}
 use native.Mathlib.Omega.{arith}
@@ -15,7 +14,7 @@ use Rattle.common.specs.Width.{Bytes}
 use Rattle.fields.specs.Little.{field}
 use Rattle.benchfile.specs.Row.{rowBytes}
 use Rattle.benchfile.proofs.Parts.{part-bytes}
-use Rattle.append.proofs.Decimal.{short}
+use Rattle.append.proofs.Decimal.{short, either}
 use Rattle.append.specs.Number.{decimal, hexes}
 use Rattle.lister.specs.Body.{bytesText, lineText, linesFrom, linesText}
 use Rattle.lister.specs.Row.{eventText, flagsText, cyclesText, padText, plugText, backText, onWord, offWord, texts, rowText}
@@ -23,10 +22,6 @@ use Rattle.lister.specs.List.{rowsText, scriptText, settingsText}
 
 abbrev Short : ℕ → List ℕ → Type 0
 Short n l = length l ≤ n
-
-either : (n : ℕ) (x : Bool) (a b : List ℕ) → Short n a → Short n b → Short n (pick x a b)
-either n true a b p q = p
-either n false a b p q = q
 
 decimal-short : (n : ℕ) → n < 65536 → Short 5 (decimal n)
 decimal-short n h = short 4 n (omega arith)

@@ -17,9 +17,8 @@ use Rattle.benchfile.proofs.Parts.{listed}
 use Rattle.reader.specs.Reader as reading
 use Rattle.lister.specs.Body.{linesText, fillWord, romWord}
 use Rattle.lister.specs.List.{settingsText, scriptText}
-use Rattle.assembler.specs.Desk.{State, runs}
+use Rattle.assembler.specs.Desk.{State, runs, made}
 use Rattle.assembler.proofs.Join.{runs-append}
-use Rattle.bothways.proofs.Quietly.{made}
 use Rattle.bothways.proofs.Rows as phases
 use Rattle.bothways.proofs.Between.{Rest}
 use Rattle.bothways.proofs.Settings.{settings-line}

@@ -13,8 +13,8 @@ use Rattle.reader.specs.Line.{fitsOf, numberOf, namedOf, takenOf, closingOf, li
 use Rattle.reader.specs.Reader.{reader, startOf, shutOf, spacedOf, plainOf, stepOf, readOf}
 use Rattle.append.specs.Number.{decimal}
 use Rattle.lister.specs.List.{bitcyclesWord, settingsText}
-use Rattle.assembler.specs.Desk.{State, frontOf, romOf, scriptOf, runs}
-use Rattle.bothways.proofs.Quietly.{quietly, made, added, quietly-runs}
+use Rattle.assembler.specs.Desk.{State, frontOf, romOf, scriptOf, runs, made, added}
+use Rattle.bothways.proofs.Quietly.{quietly, quietly-runs}
 use Rattle.bothways.proofs.Decimal.{decimal-back}
 use Rattle.bothways.proofs.Rows.{before}
 use Rattle.bothways.proofs.Between.{Rest}

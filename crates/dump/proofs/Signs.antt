@@ -7,15 +7,15 @@ use lib.ListN.{length, drop, getD, drop-of-length-le}
 use lib.Seq.{drop-cons}
 use Rattle.append.specs.Sheet.{Sheet, push, puts}
 use Rattle.append.proofs.Laws.{first, last, puts-none}
-use Rattle.dump.specs.Page.{shownOf, signsText}
+use Rattle.dump.specs.Page.{asciiOf, signsText}
 
-pub signs-next : (s : Sheet) {t : Sheet} (l : List ℕ) {c : ℕ} (i : ℕ) → i < length l → c ≡ shownOf (getD l i 0) → t ≡ push s c
+pub signs-next : (s : Sheet) {t : Sheet} (l : List ℕ) {c : ℕ} (i : ℕ) → i < length l → c ≡ asciiOf (getD l i 0) → t ≡ push s c
     → puts s (signsText (drop i l)) ≡ puts t (signsText (drop (i + 1) l))
 unfolding signsText
 signs-next s l i h q e =
     rw (add-one, drop-cons l i 0 h)
-    (first s (shownOf (getD l i 0) ∷ []) (signsText (drop (suc i) l))
-    (last s (shownOf (getD l i 0)) (e ∙ ap (push s) q)))
+    (first s (asciiOf (getD l i 0) ∷ []) (signsText (drop (suc i) l))
+    (last s (asciiOf (getD l i 0)) (e ∙ ap (push s) q)))
 
 pub signs-end : (s : Sheet) (l : List ℕ) (i : ℕ) → length l ≤ i → puts s (signsText (drop i l)) ≡ s
 unfolding signsText

@@ -1,4 +1,4 @@
--- A page of work RAM as a hex dump, in characters' ASCII codes.
+-- A page of work RAM (document 01, page look) as a hex dump (docs/BENCH.md), in characters' ASCII codes.
 use Prim.Native.Nat.{ℕ, _+_, _*_, _/_, _%_}
 use mathlib.Core.List.{List, [], _∷_, _++_}
 use Rattle.common.specs.Pick.{pick}
@@ -8,8 +8,8 @@ use Rattle.append.specs.Number.{glyphOf, hexByte, hexes}
 use Rattle.append.specs.Texts.{each}
 
 -- a printable character of ASCII as it is, any other byte as `.`
-unfoldable pub shownOf : ℕ → ℕ
-shownOf x = pick (within 32 127 x) x 46
+unfoldable pub asciiOf : ℕ → ℕ
+asciiOf x = pick (within 32 127 x) x 46
 
 -- `7E:1230 `: bank, the page's two digits, the line's digit and 0; pages from 256 on are in bank $7F
 abbrev pub headText : ℕ → ℕ → List ℕ
@@ -22,7 +22,7 @@ bytesText = hexes (32 ∷ [])
 -- bytes as characters
 unfoldable pub signsText : List ℕ → List ℕ
 signsText [] = []
-signsText (x ∷ l) = shownOf x ∷ signsText l
+signsText (x ∷ l) = asciiOf x ∷ signsText l
 
 -- the place, eight bytes, a gap, eight bytes, and all of them as characters between bars
 unfoldable pub lineText : ℕ → ℕ → List ℕ → List ℕ

@@ -1,4 +1,4 @@
--- A place in work RAM as a person writes it, read as an offset ($7E:0000 first). 131,072 is no place.
+-- A place in work RAM as a person writes it (docs/BENCH.md), read as an offset ($7E:0000 first). 131,072 is no place.
 use Prim.Native.Nat.{ℕ, _+_, _-_, _*_}
 use mathlib.Core.List.{List}
 use lib.Dec.{eqb, ltb}

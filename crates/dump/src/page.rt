@@ -2,7 +2,7 @@
 ghost use mathlib.Core.Path.{_≡_};
 ghost use denote.Ref.{now};
 ghost use Rattle.append.specs.Sheet.{sheet, puts};
-ghost use Rattle.dump.specs.Page.{shownOf, headText, signsText, lineText, pageText};
+ghost use Rattle.dump.specs.Page.{asciiOf, headText, signsText, lineText, pageText};
 use append::number::glyph;
 use append::number::hexes;
 use append::push_byte;
@@ -10,8 +10,8 @@ use append::put;
 use benchfile::part::part;
 
 // A printable character as it is, any other byte as a dot.
-fn shown(x: u8) -> u8
-    ensures { λ r. ⌜ r ≡ shownOf x ⌝ }
+fn ascii(x: u8) -> u8
+    ensures { λ r. ⌜ r ≡ asciiOf x ⌝ }
 {
     match x {
         32..=126 => x,
@@ -44,7 +44,7 @@ pub fn signs(out: &mut [u8], at: usize, s: &[u8]) -> usize
     let mut to = at;
     let mut i = 0;
     while i < s.len() {
-        let c = shown(s[i]);
+        let c = ascii(s[i]);
         to = push_byte(out, to, c);
         i += 1;
     }

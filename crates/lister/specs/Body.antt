@@ -1,4 +1,4 @@
--- The bytes of a fill or a ROM as text, 16 to a line.
+-- The bytes of a fill or a ROM as text (docs/BENCH.md), 16 to a line.
 use Prim.Native.Nat.{ℕ, _+_, _*_, _/_}
 use mathlib.Core.List.{List, [], _∷_, _++_}
 use lib.ListN.{length}
@@ -19,6 +19,7 @@ lineText w (x ∷ l) = w ++ (bytesText (x ∷ l) ++ (10 ∷ []))
 abbrev pub linesFrom : List ℕ → List ℕ → ℕ → ℕ → List ℕ
 linesFrom w l = each (λ (k : ℕ). lineText w (partOf l (k * 16) 16))
 
+-- all bytes of a section
 unfoldable pub linesText : List ℕ → List ℕ → List ℕ
 linesText w l = linesFrom w l (length l / 16 + 1) 0
 

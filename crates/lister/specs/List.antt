@@ -1,4 +1,4 @@
--- A bench file as text: settings, fill, ROM, rows.
+-- A bench file as text (docs/BENCH.md): settings, fill, ROM, rows.
 use Prim.Native.Nat.{ℕ, _/_}
 use mathlib.Core.List.{List, [], _∷_, _++_}
 use lib.ListN.{length}
@@ -14,6 +14,7 @@ use Rattle.lister.specs.Row.{rowText}
 abbrev pub bitcyclesWord : List ℕ
 bitcyclesWord = 98 ∷ 105 ∷ 116 ∷ 99 ∷ 121 ∷ 99 ∷ 108 ∷ 101 ∷ 115 ∷ 32 ∷ []
 
+-- `bitcycles 264`
 unfoldable pub settingsText : ℕ → List ℕ
 settingsText n = bitcyclesWord ++ (decimal n ++ (10 ∷ []))
 
@@ -21,9 +22,11 @@ settingsText n = bitcyclesWord ++ (decimal n ++ (10 ∷ []))
 abbrev pub rowsText : List ℕ → ℕ → ℕ → List ℕ
 rowsText s = each (λ (i : ℕ). rowText (rowBytes s i))
 
+-- all rows
 unfoldable pub scriptText : List ℕ → List ℕ
 scriptText s = rowsText s (length s / 8) 0
 
+-- the whole file
 unfoldable pub listText : List ℕ → List ℕ
 listText f =
     settingsText (field 2 (sectionOf f 0) 0)

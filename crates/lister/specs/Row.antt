@@ -1,4 +1,4 @@
--- A row of a script as a line of text, in characters' ASCII codes.
+-- A row of a script (document 01, "Bench file") as a line of text (docs/BENCH.md), in characters' ASCII codes.
 use Prim.Native.Nat.{ℕ}
 use mathlib.Core.List.{List, [], _∷_, _++_}
 use lib.Dec.{eqb}
@@ -63,22 +63,27 @@ offWord = 32 ∷ 111 ∷ 102 ∷ 102 ∷ 10 ∷ []
 abbrev pub backWord : List ℕ
 backWord = 98 ∷ 97 ∷ 99 ∷ 107 ∷ 32 ∷ []
 
--- the options of a cycles row: an event that is not 0, line due, timer
+-- the options of a cycles row: an event that is not 0 ..
 unfoldable pub eventText : ℕ → List ℕ
 eventText e = pick (eqb e 0) [] (eventWord ++ decimal e)
 
+-- .. line due, timer
 unfoldable pub flagsText : ℕ → List ℕ
 flagsText f = find (at 1 lineWord ∷ at 2 timerWord ∷ at 3 (lineWord ++ timerWord) ∷ []) f []
 
+-- `cycles 40 event 1 line timer`
 unfoldable pub cyclesText : ℕ → ℕ → ℕ → List ℕ
 cyclesText n e f = cyclesWord ++ (decimal n ++ (eventText e ++ (flagsText f ++ (10 ∷ []))))
 
+-- `pad 0 $8000`
 unfoldable pub padText : ℕ → ℕ → ℕ → List ℕ
 padText port l h = padWord ++ (decimal port ++ wordText l h)
 
+-- `plug 1 off`
 unfoldable pub plugText : ℕ → ℕ → List ℕ
 plugText port on = plugWord ++ (decimal port ++ pick (eqb on 1) onWord offWord)
 
+-- `back 41`
 unfoldable pub backText : ℕ → List ℕ
 backText n = backWord ++ (decimal n ++ (10 ∷ []))
 
@@ -94,5 +99,6 @@ texts b =
     ∷ at 7 (backText (field 2 b 1))
     ∷ []
 
+-- nothing for a kind that there is not
 unfoldable pub rowText : List ℕ → List ℕ
 rowText b = find (texts b) (byteAt b 0) []

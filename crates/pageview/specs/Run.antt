@@ -16,9 +16,11 @@ pub record Over : Type 0 where
   pub number : ℕ
   pub desk : Desk
 
+-- by its fields
 abbrev pub over : ℕ → ℕ → Desk → Over
 over i n d = record { row = i; number = n; desk = d }
 
+-- the same, of what the code returns and the slices lent to it
 abbrev pub ended : Ended → List ℕ → List ℕ → List ℕ → Over
 ended r l h e = over (r .row) (r .number) (desk (r .bench) l h e)
 

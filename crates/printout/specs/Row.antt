@@ -15,6 +15,7 @@ pub record Shown : Type 0 where
   pub ran : Running
   pub out : Sheet
 
+-- the same, of what the code returns and the slices lent to it
 abbrev pub shown : Lined → List ℕ → List ℕ → List ℕ → List ℕ → Shown
 shown r l h e out = record { ran = ran (r .ran) l h e; out = sheet out (r .used) }
 
@@ -22,6 +23,7 @@ shown r l h e out = record { ran = ran (r .ran) l h e; out = sheet out (r .used)
 abbrev pub lineOf : ℕ → List ℕ → Running → List ℕ
 lineOf number row r = lineText number (byteAt row 0) (r .number) (r .a) (r .b)
 
+-- its line put behind the text
 abbrev pub withLine : ℕ → List ℕ → Sheet → Running → Shown
 withLine number row t r = record { ran = r; out = puts t (lineOf number row r) }
 

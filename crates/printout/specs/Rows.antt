@@ -18,6 +18,7 @@ pub record Standing : Type 0 where
   pub number : ℕ
   pub out : Sheet
 
+-- the same, of what the code returns and the slices lent to it
 abbrev pub standing : Stand → List ℕ → List ℕ → List ℕ → List ℕ → Standing
 standing s l h e out = record { desk = desk (s .bench) l h e; next = s .next; number = s .number; out = sheet out (s .used) }
 
@@ -25,6 +26,7 @@ standing s l h e out = record { desk = desk (s .bench) l h e; next = s .next; nu
 abbrev pub start : Bench → List ℕ → List ℕ → List ℕ → ℕ → List ℕ → Standing
 start b l h e first out = record { desk = desk b l h e; next = first; number = 0; out = sheet out 0 }
 
+-- behind the next row
 abbrev pub after : Standing → Shown → Standing
 after s o = record { desk = o .ran .desk; next = s .next + 1; number = o .ran .number; out = o .out }
 

@@ -15,6 +15,7 @@ use Rattle.lines.specs.Line.{refusedText}
 use Rattle.lines.specs.Fill.{filled}
 use Rattle.printout.specs.declared.start.Started.{Started}
 
+-- the refusal or 0, the bench, both banks, the buffer
 pub record Starting : Type 0 where
   pub number : ℕ
   pub bench : Bench
@@ -22,6 +23,7 @@ pub record Starting : Type 0 where
   pub high : List ℕ
   pub out : Sheet
 
+-- the same, of what the code returns and the slices lent to it
 abbrev pub started : Started → List ℕ → List ℕ → List ℕ → Starting
 started r l h out = record { number = r .number; bench = r .bench; low = l; high = h; out = sheet out (r .used) }
 

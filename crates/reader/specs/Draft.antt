@@ -1,4 +1,4 @@
--- A line while it is read. Phases: 0 nothing yet, 1 settings, 2 fill, 3 ROM, 4 rows. Kinds: 1 to 7 rows, 8 bitcycles, 9 fill, 10 rom,
+-- A line of a bench's text (docs/BENCH.md) while it is read. Phases: 0 nothing yet, 1 settings, 2 fill, 3 ROM, 4 rows. Kinds: 1 to 7 rows, 8 bitcycles, 9 fill, 10 rom,
 -- 11 rom file. States: what is expected, as src/draft.rt lists them. Emit: 0 nothing, 1 byte of the fill, 2 settings,
 -- 3 row, 4 file, 5 byte of the ROM, 9 failed.
 use Prim.Native.Nat.{ℕ}
@@ -10,6 +10,7 @@ use Rattle.common.specs.Pick.{pick}
 use Rattle.common.specs.Table.{Entry, find, at}
 use Rattle.reader.specs.declared.draft.Draft.{Draft}
 
+-- by its fields
 abbrev pub draft : ℕ → ℕ → ℕ → ℕ → ℕ → ℕ → ℕ → ℕ → Draft
 draft p s k x₁ x₂ x₃ x₄ e =
     record { phase = p; state = s; kind = k; b1 = x₁; b2 = x₂; b3 = x₃; b4 = x₄; emit = e }
@@ -33,6 +34,7 @@ keywords =
     ∷ at 35878 10
     ∷ []
 
+-- the kind of a line, by the word that starts it; 0 for none
 abbrev pub kindOf : ℕ → ℕ
 kindOf v = find keywords v 0
 
@@ -41,6 +43,7 @@ abbrev pub firsts : List (Entry ℕ)
 firsts =
     at 1 1 ∷ at 2 4 ∷ at 3 16 ∷ at 4 6 ∷ at 5 17 ∷ at 6 8 ∷ at 7 15 ∷ at 8 10 ∷ at 9 11 ∷ []
 
+-- of a ROM, a byte or `file`
 abbrev pub firstOf : ℕ → ℕ
 firstOf k = find firsts k 12
 

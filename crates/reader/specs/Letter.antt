@@ -1,4 +1,4 @@
--- Characters of the text form, by their ASCII codes.
+-- Characters of the text form (docs/BENCH.md), by their ASCII codes.
 use Prim.Native.Nat.{ℕ, _-_}
 use mathlib.Core.List.{List, [], _∷_}
 use Rattle.common.specs.Pick.{pick}

@@ -1,4 +1,4 @@
--- Words of a line, one after the other, and the line's end.
+-- Words of a line of the text form (docs/BENCH.md), one after the other, and the line's end.
 use Prim.Native.Nat.{ℕ, _/_, _%_}
 use mathlib.Core.Bool.{Bool, _&&_, _||_}
 use mathlib.Core.List.{List, [], _∷_}
@@ -46,7 +46,7 @@ nexts =
 abbrev pub nextOf : ℕ → ℕ
 nextOf s = find nexts s 18
 
--- where the bytes of a number go, as document 01 lays out the rows
+-- where the bytes of a number go, as document 01 lays out the rows: bank, port, low byte of a count ..
 abbrev pub firstBytes : ℕ → ℕ → List (Entry ℕ)
 firstBytes l h =
     at 1 l ∷ at 4 h ∷ at 6 l ∷ at 10 l ∷ at 11 l ∷ at 12 l ∷ at 13 l ∷ at 15 l ∷ at 16 h ∷ at 17 l ∷ at 19 l ∷ []
@@ -54,18 +54,21 @@ firstBytes l h =
 abbrev pub byte1Of : ℕ → ℕ → ℕ → ℕ → ℕ
 byte1Of s x l h = find (firstBytes l h) s x
 
+-- .. high byte of a count, low byte of an address or a word ..
 abbrev pub secondBytes : ℕ → ℕ → List (Entry ℕ)
 secondBytes l m = at 1 m ∷ at 4 l ∷ at 7 l ∷ at 8 l ∷ at 10 m ∷ at 15 m ∷ at 16 l ∷ []
 
 abbrev pub byte2Of : ℕ → ℕ → ℕ → ℕ → ℕ
 byte2Of s x l m = find (secondBytes l m) s x
 
+-- .. their high byte, event ..
 abbrev pub thirdBytes : ℕ → ℕ → List (Entry ℕ)
 thirdBytes l m = at 3 l ∷ at 4 m ∷ at 7 m ∷ at 8 m ∷ at 16 m ∷ []
 
 abbrev pub byte3Of : ℕ → ℕ → ℕ → ℕ → ℕ
 byte3Of s x l m = find (thirdBytes l m) s x
 
+-- .. and the byte of a write or an answer
 abbrev pub fourthBytes : ℕ → List (Entry ℕ)
 fourthBytes l = at 5 l ∷ []
 

@@ -1,4 +1,4 @@
--- The text, one character after the other.
+-- The text form (docs/BENCH.md), one character after the other.
 use Prim.Native.Nat.{ℕ, _+_}
 use mathlib.Core.Bool.{Bool, _||_}
 use mathlib.Core.List.{List, [], _∷_}
@@ -13,6 +13,7 @@ use Rattle.reader.specs.Word.{blankWord, letterOf, dollarOf, colonOf, so
 use Rattle.reader.specs.Draft.{draft}
 use Rattle.reader.specs.Line.{takenOf, lineOf}
 
+-- by its fields
 abbrev pub reader : Word → Draft → Reader
 reader w d = record { word = w; draft = d }
 

@@ -1,4 +1,4 @@
--- A word while it is read. Forms: 0 between words, 1 letters, 2 `$`, 3 `$` and digits, 4 `:` behind these, 5 digits behind it,
+-- A word of the text form (docs/BENCH.md) while it is read. Forms: 0 between words, 1 letters, 2 `$`, 3 `$` and digits, 4 `:` behind these, 5 digits behind it,
 -- 6 decimal digits, 7 comment, 8 file name, 9 no word.
 use Prim.Native.Nat.{ℕ, _+_, _*_}
 use mathlib.Core.List.{List, [], _∷_}
@@ -7,6 +7,7 @@ use Rattle.common.specs.Pick.{pick}
 use Rattle.common.specs.Table.{Entry, find, at}
 use Rattle.reader.specs.declared.word.Word.{Word}
 
+-- by its fields
 abbrev pub word : ℕ → ℕ → ℕ → Word
 word f v b = record { form = f; value = v; bank = b }
 
@@ -14,6 +15,7 @@ word f v b = record { form = f; value = v; bank = b }
 abbrev pub blankWord : ℕ → Word
 blankWord f = word f 0 0
 
+-- no word at all
 abbrev pub badWord : Word
 badWord = blankWord 9
 

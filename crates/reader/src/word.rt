@@ -1,6 +1,6 @@
 // A word while it is read: its form, its value so far, and the bank before a colon.
 ghost use mathlib.Core.Path.{_≡_};
-ghost use Rattle.reader.specs.Word.{blankWord, badWord, baseOf, afterOf, openedOf, grownOf, letterOf, dollarOf, colonOf, sortOf, worthOf};
+ghost use Rattle.reader.specs.Word.{blankWord, baseOf, afterOf, openedOf, grownOf, letterOf, dollarOf, colonOf, sortOf, worthOf};
 
 // Forms: 0 between words, 1 letters, 2 `$`, 3 `$` and digits, 4 `:` behind these, 5 digits behind it, 6 decimal digits,
 // 7 comment, 8 file name, 9 no word at all. Letters count in base 36, so that a word's value names it.

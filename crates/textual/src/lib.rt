@@ -6,6 +6,7 @@ pub mod spot;
 use assembler::assemble::assemble_text;
 use benchfile::check::file_check;
 use benchfile::part::part;
+use input::read_all;
 use libc::STDERR_FILENO;
 use libc::STDIN_FILENO;
 use libc::STDOUT_FILENO;
@@ -13,12 +14,6 @@ use lister::list::list_file;
 use message::report;
 use name::name_in;
 use reader::text::name_at;
-
-// A read that fails answers less than 0, and the end of a file 0.
-fn readable(fd: i32) -> bool {
-    let mut more = [0u8; 1];
-    libc::read(fd, &mut more) >= 0
-}
 
 // The bench file of a text, and the bytes of its ROM file.
 fn assembled(text: &[u8], rom: &[u8]) {
@@ -41,12 +36,12 @@ fn with_file(text: &[u8], name: &[u8]) {
         return;
     }
     let mut rom = [0u8; 65537];
-    let n = io::read_full(fd, &mut rom);
-    if !readable(fd) {
+    let got = read_all(fd, &mut rom);
+    if !got.ok {
         os::fail(name);
         return;
     }
-    assembled(text, &rom[..n]);
+    assembled(text, part(&rom, 0, got.n));
 }
 
 fn with_rom(text: &[u8]) {
@@ -67,19 +62,19 @@ pub fn assemble() {
         return;
     }
     let mut text = [0u8; 524289];
-    let n = io::read_full(STDIN_FILENO, &mut text);
-    if !readable(STDIN_FILENO) {
+    let got = read_all(STDIN_FILENO, &mut text);
+    if !got.ok {
         os::fail(b"assemble: standard input");
         return;
     }
-    if n == 524289 {
+    if got.n == 524289 {
         io::write_all(
             STDERR_FILENO,
             b"assemble: the text is longer than 524288 bytes\n",
         );
         return;
     }
-    with_rom(&text[..n]);
+    with_rom(part(&text, 0, got.n));
 }
 
 fn listed(file: &[u8]) {
@@ -103,10 +98,10 @@ pub fn list() {
         return;
     }
     let mut file = [0u8; 65537];
-    let n = io::read_full(STDIN_FILENO, &mut file);
-    if !readable(STDIN_FILENO) {
+    let got = read_all(STDIN_FILENO, &mut file);
+    if !got.ok {
         os::fail(b"list: standard input");
         return;
     }
-    listed(&file[..n]);
+    listed(part(&file, 0, got.n));
 }

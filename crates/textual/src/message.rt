@@ -1,9 +1,9 @@
 // What was expected, in words.
 use crate::spot::spot_of;
+use append::number::decimal;
 use append::put;
 use benchfile::part::part;
 use dump::page::signs;
-use io::decimal;
 use libc::STDERR_FILENO;
 use reader::draft::Draft;
 use reader::reader::read;
@@ -65,12 +65,6 @@ fn expected(out: &mut [u8], at: usize, d: Draft) -> usize {
     }
 }
 
-fn number(out: &mut [u8], at: usize, n: u64) -> usize {
-    let mut digits = [0u8; 20];
-    let k = decimal(n, &mut digits);
-    put(out, at, &digits[..k])
-}
-
 // The word itself, in quotes; of a long one its first 64 characters.
 fn quoted(out: &mut [u8], at: usize, word: &[u8]) -> usize {
     let a = put(out, at, b"`");
@@ -111,7 +105,7 @@ pub fn report(text: &[u8]) {
     let p = spot_of(upto);
     let mut out = [0u8; 256];
     let a = put(&mut out, 0, b"assemble: line ");
-    let b = number(&mut out, a, p.line);
+    let b = decimal(&mut out, a, p.line);
     let c = put(&mut out, b, b": ");
     let d = found(&mut out, c, upto, p.from);
     let e = put(&mut out, d, b"\n");

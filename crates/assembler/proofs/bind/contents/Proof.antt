@@ -1,5 +1,6 @@
 use Rattle.append.proofs.Laws.{then}
-use Rattle.assembler.specs.Bind.{contentsText}
+use Rattle.benchfile.specs.Build.{contentsOf}
+use Rattle.assembler.specs.Bind.{headOf}
 use borrow.Author.Needs.{needs}
 use Rattle.assembler.proofs.bind.contents.Statement.{statement}
 use Rattle.assembler.proofs.bind.contents.Tie as tie
@@ -29,7 +30,7 @@ same-length : tie.Need-same-length
 same-length c = search needs
 
 returns : tie.Need-returns
-unfolding contentsText
+unfolding contentsOf headOf
 returns c = then _ _ _ (c .before .before .before .before .before .before .before .before .before .before .before .before .before .before .head .ensures) (then _ _ _ (c .before .before .before .before .before .before .before .before .before .before .head2 .ensures) (then _ _ _ (c .before .before .before .before .before .before .head3 .ensures) (c .before .before .head4 .ensures)))
 
 pub contents-spec : {M : Type 1} → statement M

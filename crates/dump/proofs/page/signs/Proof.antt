@@ -18,11 +18,11 @@ abbrev μ-loop : tie.MeasureT-loop
 loop-holds : tie.Need-loop-holds Inv-loop μ-loop
 loop-holds c = (refl, refl)
 
-shared-slice-read-shown : tie.Need-shared-slice-read-shown Inv-loop μ-loop
-shared-slice-read-shown c = omega arith
+shared-slice-read-ascii : tie.Need-shared-slice-read-ascii Inv-loop μ-loop
+shared-slice-read-ascii c = omega arith
 
-shown-requires : tie.Need-shown-requires Inv-loop μ-loop
-shown-requires c κs = tt
+ascii-requires : tie.Need-ascii-requires Inv-loop μ-loop
+ascii-requires c κs = tt
 
 push-byte-requires : tie.Need-push-byte-requires Inv-loop μ-loop
 push-byte-requires c κs = tt
@@ -34,7 +34,7 @@ loop-less : tie.Need-loop-less Inv-loop μ-loop
 loop-less c = omega arith
 
 loop-again : tie.Need-loop-again Inv-loop μ-loop
-loop-again c = ((c .before .before .push-byte .kept .0) ∙ (c .before .before .before .before .before .before .before .loop .inv .0), (c .before .before .before .before .before .before .before .loop .inv .1) ∙ signs-next _ _ _ (c .before .before .before .before .before .before .loop-test .taken) (c .before .before .before .before .shown .ensures) (c .before .before .push-byte .ensures))
+loop-again c = ((c .before .before .push-byte .kept .0) ∙ (c .before .before .before .before .before .before .before .loop .inv .0), (c .before .before .before .before .before .before .before .loop .inv .1) ∙ signs-next _ _ _ (c .before .before .before .before .before .before .loop-test .taken) (c .before .before .before .before .ascii .ensures) (c .before .before .push-byte .ensures))
 
 same-length : tie.Need-same-length Inv-loop μ-loop
 same-length c = (c .before .loop .inv .0)
@@ -49,8 +49,8 @@ signs-spec =
     Inv-loop
     μ-loop
     loop-holds
-    shared-slice-read-shown
-    shown-requires
+    shared-slice-read-ascii
+    ascii-requires
     push-byte-requires
     add-i
     loop-less

@@ -1,5 +1,3 @@
-use mathlib.Core.Path.{_≡_, sym}
-use Rattle.common.proofs.TableLaws.{find-none}
 use native.Mathlib.Nat.{lt-of-lt-of-le, le-trans}
 use lib.Dec.{lit≤}
 use Rattle.common.proofs.RangeLaws.{inside, below, above}

@@ -1,4 +1,4 @@
-use mathlib.Core.Path.{_≡_, sym}
+use mathlib.Core.Path.{sym}
 use Rattle.common.proofs.TableLaws.{find-none}
 use Rattle.reader.specs.Letter.{signs, signOf}
 use Rattle.reader.proofs.letter.sign.Statement.{statement}

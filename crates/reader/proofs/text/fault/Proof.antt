@@ -4,7 +4,7 @@ use Rattle.reader.specs.Reader.{startOf, soundOf}
 use native.Mathlib.Omega.{arith}
 use lib.ListN.{length, drop}
 use Prim.Native.Nat.{_-_, _+_}
-use mathlib.Core.Path.{_≡_, refl, sym, ap, _∙_}
+use mathlib.Core.Path.{_≡_, sym, ap, _∙_}
 use Rattle.reader.proofs.text.fault.Statement.{statement}
 use Rattle.reader.proofs.text.fault.Tie as tie
 

@@ -4,7 +4,7 @@ use Rattle.reader.specs.Reader.{startOf, unnamedOf}
 use native.Mathlib.Omega.{arith}
 use lib.ListN.{length, drop}
 use Prim.Native.Nat.{_-_, _+_}
-use mathlib.Core.Path.{_≡_, refl, sym, ap, _∙_}
+use mathlib.Core.Path.{_≡_, sym, ap, _∙_}
 use Rattle.reader.proofs.text.name_at.Statement.{statement}
 use Rattle.reader.proofs.text.name_at.Tie as tie
 

@@ -3,8 +3,8 @@ use Rattle.reader.proofs.Walk.{next, end}
 use Rattle.reader.specs.Reader.{startOf, reads}
 use native.Mathlib.Omega.{arith}
 use lib.ListN.{length, drop}
-use Prim.Native.Nat.{_-_, _+_}
-use mathlib.Core.Path.{_≡_, refl, sym, ap, _∙_}
+use Prim.Native.Nat.{_-_}
+use mathlib.Core.Path.{_≡_, sym, ap, _∙_}
 use Rattle.reader.proofs.text.read_all.Statement.{statement}
 use Rattle.reader.proofs.text.read_all.Tie as tie
 

@@ -3,6 +3,7 @@ use Prim.Native.Nat.{ℕ, _+_, _-_, _/_, _%_, _^_, min}
 use mathlib.Core.Bool.{Bool, true, false, not, _&&_}
 use mathlib.Core.List.{List, [], _∷_, _++_}
 use mathlib.Core.Path.{_≡_, refl, sym, ap, _∙_}
+use borrow.Author.Tests.{eq-eqb, ne-eqb}
 use lib.Dec.{eqb, ltb}
 use lib.ListN.{getD, replicate}
 use Rattle.common.specs.Pick.{pick}
@@ -16,12 +17,22 @@ use Rattle.image.specs.Groups.{byte, flag}
 use Rattle.player_abi.specs.Crossed.{answered}
 use Rattle.player_abi.specs.Rest.{waitAt, clockAt, lineAt, slotAt, keptAt, lengthAt, ticking, counting, resting, rested}
 
--- three tests passed: what the fourth says
-pub yes : {a b c r : Bool} (x y z w : Bool) → a ≡ x → b ≡ y → c ≡ z → (a && b && c) ≡ true → r ≡ w → r ≡ pick (x && y && z) w false
-yes x y z w p q s t u = let v : (x && y && z) ≡ true = (λ i. sym p i && sym q i && sym s i) ∙ t in rw v u
+-- the first test fails, and the others are not asked
+pub short : (n : ℕ) (w : Bool) → (n ≡ 280 → ⊥) → false ≡ pick (eqb n 280) w false
+short n w h = rw (ne-eqb n 280 h) refl
 
-pub no : {a b c : Bool} (x y z w : Bool) → a ≡ x → b ≡ y → c ≡ z → (a && b && c) ≡ false → false ≡ pick (x && y && z) w false
-no x y z w p q s t = let v : (x && y && z) ≡ false = (λ i. sym p i && sym q i && sym s i) ∙ t in rw v refl
+-- it passes, and so do three others: what the last one says
+pub yes : (n : ℕ) {a b c r : Bool} (x y z w : Bool) → n ≡ 280 → a ≡ x → b ≡ y → c ≡ z → (a && b && c) ≡ true → r ≡ w
+    → r ≡ pick (eqb n 280) (pick (x && y && z) w false) false
+yes n x y z w l p q s t u =
+    let v : (x && y && z) ≡ true = (λ i. sym p i && sym q i && sym s i) ∙ t in
+    rw (eq-eqb n 280 l, v) u
+
+pub no : (n : ℕ) {a b c : Bool} (x y z w : Bool) → n ≡ 280 → a ≡ x → b ≡ y → c ≡ z → (a && b && c) ≡ false
+    → false ≡ pick (eqb n 280) (pick (x && y && z) w false) false
+no n x y z w l p q s t =
+    let v : (x && y && z) ≡ false = (λ i. sym p i && sym q i && sym s i) ∙ t in
+    rw (eq-eqb n 280 l, v) refl
 
 pub ticking-by : (s : List ℕ) (nmi : Bool) (wait clock : ℕ) {a b c four : List ℕ} {left next : ℕ} → a ≡ patched s 56 (flag nmi) → left ≡ wait - 1
     → four ≡ le 4 left → b ≡ patched a 67 four → next ≡ (clock + 1) % 2 ^ 64 → c ≡ patched b 214 (le 8 next) → c ≡ ticking s nmi wait clock

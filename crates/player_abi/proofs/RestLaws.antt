@@ -282,13 +282,14 @@ pub rest-by : (rom s l h en out : List ℕ) (event : ℕ) (line timer : Bool) �
 unfolding restful
 rest-by rom s l h en out event line timer fit test =
     let tests = all (restTests s (length l) (length h) (length en) (length rom) event line timer) in
-    let passed = picked tests (entryOk (readSlot entrySize 0 s)) test in
-    let ok = given tests (entryOk (readSlot entrySize 0 s)) test in
-    let each = every (restTests s (length l) (length h) (length en) (length rom) event line timer) passed in
-    let plain = every (plainTests s event line timer) (each .0) in
+    let ranged = entryOk (readSlot entrySize 0 s) in
+    let long : length s ≡ 280 = eqb-true (length s) 280 (picked (eqb (length s) 280) (pick tests ranged false) test) in
+    let inner = given (eqb (length s) 280) (pick tests ranged false) test in
+    let ok = given tests ranged inner in
+    let each = every (restTests s (length l) (length h) (length en) (length rom) event line timer) (picked tests ranged inner) in
+    let plain = every (plainTests event line timer) (each .0) in
     let lent = every (lentTests (length l) (length h) (length en) (length rom) (lengthAt s) (slotAt s) (keptAt s)) (each .1 .0) in
     let quiet = every (quietTests s) (each .1 .1 .0) in
-    let long : length s ≡ 280 = eqb-true (length s) 280 (plain .1 .1 .1 .0) in
     let none : getD s 222 0 ≡ 0 = eqb-true (getD s 222 0) 0 (quiet .1 .1 .1 .1 .0) in
     let ev : event ≡ 0 = eqb-true event 0 (plain .0) in
     let li = not-true line (plain .1 .0) in

@@ -70,21 +70,21 @@ lentTests low high length rom fresh slot kept =
     ∷ not (ltb (fresh / 256) kept)
     ∷ []
 
--- no event, no line due, no timer hit, and the bytes of one machine
-abbrev pub plainTests : List ℕ → ℕ → Bool → Bool → List Bool
-plainTests s event line timer = eqb event 0 ∷ not line ∷ not timer ∷ eqb (length s) 280 ∷ []
+-- no event, no line due, no timer hit
+abbrev pub plainTests : ℕ → Bool → Bool → List Bool
+plainTests event line timer = eqb event 0 ∷ not line ∷ not timer ∷ []
 
-abbrev pub restTests : List ℕ → (low high length rom event : ℕ) → Bool → Bool → List Bool
-restTests s low high length rom event line timer =
-    all (plainTests s event line timer)
-    ∷ all (lentTests low high length rom (lengthAt s) (slotAt s) (keptAt s))
+abbrev pub restTests : List ℕ → (low high room rom event : ℕ) → Bool → Bool → List Bool
+restTests s low high room rom event line timer =
+    all (plainTests event line timer)
+    ∷ all (lentTests low high room rom (lengthAt s) (slotAt s) (keptAt s))
     ∷ all (quietTests s)
     ∷ []
 
--- an accepted cycle in which only that happens
-unfoldable pub restful : List ℕ → (low high length rom event : ℕ) → Bool → Bool → Bool
-restful s low high length rom event line timer =
-    pick (all (restTests s low high length rom event line timer)) (entryOk (readSlot entrySize 0 s)) false
+-- the bytes of one machine, and an accepted cycle in which only that happens
+unfoldable pub restful : List ℕ → (low high room rom event : ℕ) → Bool → Bool → Bool
+restful s low high room rom event line timer =
+    pick (eqb (length s) 280) (pick (all (restTests s low high room rom event line timer)) (entryOk (readSlot entrySize 0 s)) false) false
 
 -- NMI line, wait and clock laid over the bytes
 unfoldable pub ticking : List ℕ → Bool → ℕ → ℕ → List ℕ

@@ -2,7 +2,6 @@
 ghost use mathlib.Core.Path.{_≡_};
 ghost use Prim.Native.Nat.{_-_};
 ghost use denote.Ref.{now};
-ghost use lib.ListN.{length};
 ghost use Rattle.bus.specs.Access.{noLog};
 ghost use Rattle.entry.specs.Slot.{readSlot, writeSlot};
 ghost use Rattle.fields.specs.Little.{le};
@@ -105,10 +104,10 @@ fn image_ok(s: &[u8]) -> bool
     entry_ok(e)
 }
 
-fn plain(s: &[u8], event: u8, line: bool, timer: bool) -> bool
-    ensures { λ r. ⌜ r ≡ all (plainTests (now (s .entry)) event line timer) ⌝ }
+fn plain(event: u8, line: bool, timer: bool) -> bool
+    ensures { λ r. ⌜ r ≡ all (plainTests event line timer) ⌝ }
 {
-    (event == 0) & !line & !timer & (s.len() == 280)
+    (event == 0) & !line & !timer
 }
 
 // The ranges are tested last, since that takes longest.
@@ -124,13 +123,13 @@ pub fn restful_at(
 ) -> bool
     ensures { λ r. ⌜ r ≡ restful (now (s .entry)) low high room rom event line timer ⌝ }
 {
+    if s.len() != 280 {
+        return false;
+    }
     let fresh = length_at(s);
     let slot = slot_at(s);
     let kept = kept_at(s);
-    if plain(s, event, line, timer)
-        & lent_ok(low, high, room, rom, fresh, slot, kept)
-        & quiet_at(s)
-    {
+    if plain(event, line, timer) & lent_ok(low, high, room, rom, fresh, slot, kept) & quiet_at(s) {
         return image_ok(s);
     }
     false

@@ -105,7 +105,12 @@ fn hdma() -> File {
     }
     rows.extend([write(0x2181, 0x00), write(0x2182, 0x80), write(0x2183, 0x01), write(0x420C, 0xFF)]);
     rows.extend(frame(true));
-    File { name: "hdma", about: "8 HDMA channels on every line", fill: vec![0x81, 0x84, 0x82, 0x90, 0xC5, 0x83, 0xFF], rows }
+    File {
+        name: "hdma",
+        about: "8 HDMA channels on every line",
+        fill: vec![0x81, 0x84, 0x82, 0x90, 0xC5, 0x83, 0xFF],
+        rows,
+    }
 }
 
 fn idle() -> File {

@@ -24,9 +24,9 @@ fn main() -> ExitCode {
     let done = match words[..] {
         [] => compare().and_then(|()| measure::table()),
         ["check"] => compare(),
-        ["file", name] => find(name).and_then(|file| {
-            std::io::stdout().write_all(&file.bytes()).map_err(|error| error.to_string())
-        }),
+        ["file", name] => {
+            find(name).and_then(|file| std::io::stdout().write_all(&file.bytes()).map_err(|error| error.to_string()))
+        }
         ["pass", who, name, count] => run(who, name, count),
         _ => Err("usage: speed [check | file NAME | pass WHO NAME N]".into()),
     };

@@ -7,34 +7,37 @@ use std::time::{Duration, Instant};
 
 /// Master cycles in a second of the console.
 const REAL: f64 = 21_477_300.0;
-const ROUNDS: usize = 15;
+const ROUNDS: usize = 60;
 
 pub fn table() -> Result<(), String> {
-    println!("| file | cycles | who | ns a cycle | cycles a second | of real time | ratio | instructions a cycle | ratio |");
-    println!("|---|---|---|---|---|---|---|---|---|");
+    println!("| file | cycles a pass | cycles a second | of real time | time | instructions a cycle | instructions |");
+    println!("|---|---|---|---|---|---|---|");
     for file in File::all() {
         let (plain, proved) = by_turns(&file);
-        let counts = [instructions(&file, "plain"), instructions(&file, "proved")];
-        row(&file, "plain", plain, plain, counts[0], counts[0]);
-        row(&file, "proved", proved, plain, counts[1], counts[0]);
+        row(&file, [plain, proved], ["plain", "proved"].map(|who| instructions(&file, who)));
     }
     Ok(())
 }
 
-fn row(file: &File, who: &str, time: Duration, least: Duration, count: Option<u64>, fewest: Option<u64>) {
+/// Each cell has plain Rust first and the library second, or the library's figure over plain Rust's.
+fn row(file: &File, times: [Duration; 2], counts: [Option<u64>; 2]) {
     let cycles = file.cycles() as f64;
-    let seconds = time.as_secs_f64();
-    let shown = |value: Option<f64>, digits| value.map_or("-".into(), |value| format!("{value:.digits$}"));
+    let [plain, proved] = times.map(|time| cycles / time.as_secs_f64());
+    let counted = match counts {
+        [Some(few), Some(many)] => {
+            format!("{:.0}, {:.0} | {:.2}", few as f64 / cycles, many as f64 / cycles, many as f64 / few as f64)
+        }
+        _ => "- | -".into(),
+    };
     println!(
-        "| {} | {} | {who} | {:.1} | {:.1} million | {:.2} | {:.2} | {} | {} |",
+        "| {} | {} | {:.1}, {:.1} million | {:.2}, {:.2} | {:.2} | {counted} |",
         file.about,
         file.cycles(),
-        seconds * 1e9 / cycles,
-        cycles / seconds / 1e6,
-        cycles / seconds / REAL,
-        seconds / least.as_secs_f64(),
-        shown(count.map(|count| count as f64 / cycles), 0),
-        shown(count.zip(fewest).map(|(count, fewest)| count as f64 / fewest as f64), 2),
+        plain / 1e6,
+        proved / 1e6,
+        plain / REAL,
+        proved / REAL,
+        plain / proved,
     );
 }
 

@@ -219,8 +219,7 @@ impl Machine {
     /// A whole unit of 1, 2 or 4 bytes; answers its cost. Its address is taken before its bytes and stored after.
     fn hdma_transfer_unit(&mut self, work: &mut Work, channel: usize, indirect: bool) -> u32 {
         let registers = self.io.channels[channel];
-        let (bank, mut addr) =
-            if indirect { (registers.dasb, registers.das) } else { (registers.a1b, registers.a2a) };
+        let (bank, mut addr) = if indirect { (registers.dasb, registers.das) } else { (registers.a1b, registers.a2a) };
         let pattern = pattern(registers.dmap);
         for &offset in pattern {
             self.move_byte(work, registers.dmap, (bank, addr), b_address(registers.bbad, offset));

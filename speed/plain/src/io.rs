@@ -48,7 +48,17 @@ pub struct Channel {
 
 impl Default for Channel {
     fn default() -> Self {
-        Self { dmap: 0xFF, bbad: 0xFF, a1t: 0xFFFF, a1b: 0xFF, das: 0xFF, dasb: 0xFF, a2a: 0xFFFF, nltr: 0xFF, unused: 0xFF }
+        Self {
+            dmap: 0xFF,
+            bbad: 0xFF,
+            a1t: 0xFFFF,
+            a1b: 0xFF,
+            das: 0xFF,
+            dasb: 0xFF,
+            a2a: 0xFFFF,
+            nltr: 0xFF,
+            unused: 0xFF,
+        }
     }
 }
 
@@ -258,7 +268,7 @@ impl Io {
             0x2140..=0x217F => self.apu_written[usize::from(addr % 4)] = value,
             0x2181 => set_low(&mut self.wmadd.addr, value),
             0x2182 => set_high(&mut self.wmadd.addr, value),
-            0x2183 => self.wmadd.high = value % 2 != 0,
+            0x2183 => self.wmadd.high = value & 1 != 0,
             0x4016 => {
                 self.joyout = value;
                 self.set_latches(value & LATCH != 0);

@@ -1,7 +1,7 @@
 //! Both players over a file, call by call: answers and machine after each call, banks and record after each row.
 
 use crate::files::{File, Row};
-use crate::players::{Plain, Player, Proved};
+use crate::players::{Plain, Player, Proved, same_lent};
 
 /// Counts that are printed beside the verdict.
 #[derive(Default)]
@@ -59,12 +59,6 @@ fn same_cycle(
     counts.held += u64::from(answer[0]);
     counts.accesses += u64::from(answer[2]);
     same("machines", plain.machine(), proved.machine())
-}
-
-fn same_lent(plain: &Plain, proved: &Proved) -> Result<(), &'static str> {
-    let (ours, theirs) = (plain.lent(), proved.lent());
-    same("banks", (&ours.low, &ours.high), (&theirs.low, &theirs.high))?;
-    same("records", &ours.record, &theirs.record)
 }
 
 fn same<T: PartialEq>(what: &'static str, ours: T, theirs: T) -> Result<(), &'static str> {

@@ -9,6 +9,7 @@ mod check;
 mod files;
 mod measure;
 mod players;
+mod random;
 
 use files::File;
 use players::{Plain, Player, Proved, pass};
@@ -17,6 +18,8 @@ use std::process::ExitCode;
 
 /// The comparison goes over each file this often, the second time from what the first left.
 const PASSES: usize = 2;
+/// And over this many random calls of every kind.
+const RANDOM: u64 = 3_000_000;
 
 fn main() -> ExitCode {
     let words: Vec<String> = std::env::args().skip(1).collect();
@@ -51,6 +54,8 @@ fn compare() -> Result<(), String> {
             file.name, counts.calls, counts.held, counts.accesses
         );
     }
+    random::check(RANDOM)?;
+    println!("random: {RANDOM} calls the same");
     Ok(())
 }
 

@@ -39,7 +39,7 @@ pub struct Plain {
 }
 
 impl Plain {
-    fn parts(&mut self) -> (&mut plain::Machine, plain::Lent<'_>) {
+    pub fn parts(&mut self) -> (&mut plain::Machine, plain::Lent<'_>) {
         let Lent { low, high, record } = &mut self.lent;
         (&mut self.machine, plain::Lent { low, high, record, rom: &[] })
     }
@@ -94,7 +94,7 @@ pub struct Proved {
 }
 
 impl Proved {
-    fn parts(&mut self) -> raw::Lent<'_> {
+    pub fn parts(&mut self) -> raw::Lent<'_> {
         let Lent { low, high, record } = &mut self.lent;
         raw::Lent { machine: &mut self.machine, low, high, record, rom: &[] }
     }
@@ -140,6 +140,15 @@ impl Player for Proved {
     fn lent(&self) -> &Lent {
         &self.lent
     }
+}
+
+/// Banks and record of both.
+pub fn same_lent(plain: &Plain, proved: &Proved) -> Result<(), &'static str> {
+    let (ours, theirs) = (plain.lent(), proved.lent());
+    if (&ours.low, &ours.high) != (&theirs.low, &theirs.high) {
+        return Err("banks");
+    }
+    if ours.record != theirs.record { Err("records") } else { Ok(()) }
 }
 
 /// One pass over a file's script, in which every call is accepted. Each answer is kept until it is there as a whole.

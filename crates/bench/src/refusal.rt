@@ -5,21 +5,21 @@ use crate::Bench;
 use ranges::machine::machine_ok;
 
 // 1: a work RAM slice is not 65,536 bytes.
-fn banks_off(low: usize, high: usize) -> bool
+pub fn banks_off(low: usize, high: usize) -> bool
     ensures { λ r. ⌜ r ≡ banksOff low high ⌝ }
 {
     (low != 65536) | (high != 65536)
 }
 
 // 2: the record's length is 0, no multiple of 256, or not fresh's.
-fn record_off(length: usize, fresh: usize) -> bool
+pub fn record_off(length: usize, fresh: usize) -> bool
     ensures { λ r. ⌜ r ≡ recordOff length fresh ⌝ }
 {
     (length == 0) | (length % 256 != 0) | (length != fresh)
 }
 
 // 3: the ROM is too long.
-fn rom_off(rom: usize) -> bool
+pub fn rom_off(rom: usize) -> bool
     ensures { λ r. ⌜ r ≡ romOff rom ⌝ }
 {
     4194304 < rom

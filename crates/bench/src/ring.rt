@@ -33,7 +33,7 @@ pub fn slot_before(cap: usize, slot: usize) -> usize
     slot - 1
 }
 
-fn more_kept(cap: usize, kept: usize) -> usize
+pub fn more_kept(cap: usize, kept: usize) -> usize
     ensures { λ r. ⌜ r ≡ min (kept + 1) cap ⌝ }
 {
     if kept < cap { kept + 1 } else { cap }

@@ -1,1 +1,4 @@
 pub mod Join
+pub mod QuietLaws
+pub mod RestJoin
+pub mod RestLaws

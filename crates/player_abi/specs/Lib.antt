@@ -1,3 +1,4 @@
 -- The public calls in bytes, as they cross to another language.
 pub mod Bytes
 pub mod Crossed
+pub mod Rest

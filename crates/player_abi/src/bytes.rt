@@ -30,7 +30,7 @@ fn machine_of(e: Entry) -> Machine
     o
 }
 
-fn slot_at(s: &[u8]) -> u64
+pub fn slot_at(s: &[u8]) -> u64
     ensures { λ r. ⌜ r ≡ field 8 (now (s .entry)) 256 ⌝ }
 {
     join8(
@@ -45,7 +45,7 @@ fn slot_at(s: &[u8]) -> u64
     )
 }
 
-fn kept_at(s: &[u8]) -> u64
+pub fn kept_at(s: &[u8]) -> u64
     ensures { λ r. ⌜ r ≡ field 8 (now (s .entry)) 264 ⌝ }
 {
     join8(
@@ -60,7 +60,7 @@ fn kept_at(s: &[u8]) -> u64
     )
 }
 
-fn length_at(s: &[u8]) -> u64
+pub fn length_at(s: &[u8]) -> u64
     ensures { λ r. ⌜ r ≡ field 8 (now (s .entry)) 272 ⌝ }
 {
     join8(
@@ -106,7 +106,7 @@ fn eight_bytes(n: usize) -> [u8; 8]
     ]
 }
 
-fn put_eight(s: &mut [u8], at: usize, n: usize)
+pub fn put_eight(s: &mut [u8], at: usize, n: usize)
     ensures { λ _. ⌜ now (s .exit) ≡ patched (now (s .entry)) at (le 8 n) ⌝ }
 {
     let b = eight_bytes(n);

@@ -14,6 +14,8 @@ use crate::accesses::put_answer;
 use crate::bytes::bench_of;
 use crate::bytes::save;
 use crate::bytes::store;
+use crate::rest::rest;
+use crate::rest::restful_at;
 use fields::put;
 
 // A machine at power-on.
@@ -27,7 +29,7 @@ pub extern "C" fn cloverwain_fresh(machine: &mut [u8], length: usize, bitcycles:
     a.number
 }
 
-// One master cycle; `out` takes 58 bytes.
+// One master cycle; `out` takes 58 bytes. Where the DMA unit only waits or is idle, the bytes change where they stand.
 #[no_mangle]
 pub extern "C" fn cloverwain_cycle(
     machine: &mut [u8],
@@ -42,6 +44,19 @@ pub extern "C" fn cloverwain_cycle(
 ) -> u8
     ensures { λ r. ⌜ crossed r (now (machine .exit)) (now (low .exit)) (now (high .exit)) (now (entries .exit)) (now (out .exit)) ≡ cycleCrossed (now (machine .entry)) (now (out .entry)) (cycleCall (now (rom .entry)) (desk (benchOf (now (machine .entry))) (now (low .entry)) (now (high .entry)) (now (entries .entry))) event line timer) ⌝ }
 {
+    if restful_at(
+        machine,
+        low.len(),
+        high.len(),
+        entries.len(),
+        rom.len(),
+        event,
+        line,
+        timer,
+    ) {
+        rest(machine, entries, out);
+        return 0;
+    }
     let b = bench_of(machine);
     let r = bench::operate::cycle(b, low, high, entries, rom, event, line, timer);
     let after = r.bench;

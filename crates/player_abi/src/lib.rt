@@ -2,3 +2,4 @@
 pub mod accesses;
 pub mod bytes;
 pub mod calls;
+pub mod rest;

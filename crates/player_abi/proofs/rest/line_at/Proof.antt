@@ -1,0 +1,18 @@
+use lib.Dec.{eqb}
+use lib.Bits.{bitAnd}
+use mathlib.Core.Bool.{not, _&&_}
+use borrow.Author.Needs.{needs}
+use Rattle.player_abi.proofs.rest.line_at.Statement.{statement}
+use Rattle.player_abi.proofs.rest.line_at.Tie as tie
+
+byte-requires : tie.Need-byte-requires
+byte-requires c κs = search needs
+
+byte-requires-2 : tie.Need-byte-requires-2
+byte-requires-2 c κs = search needs
+
+returns : tie.Need-returns
+returns c = λ i. not (eqb (bitAnd ((c .before .byte .ensures) i) 0x80) 0) && not (eqb (bitAnd ((c .byte2 .ensures) i) 0x80) 0)
+
+pub line-at-spec : {M : Type 1} → statement M
+line-at-spec = tie.close (tie.spec byte-requires byte-requires-2 returns)

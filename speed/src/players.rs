@@ -1,0 +1,171 @@
+//! The two players behind one trait, with what they are lent.
+
+use crate::files::{BIT_CYCLES, File};
+use player::raw;
+use std::hint::black_box;
+
+const BANK_SIZE: usize = 65_536;
+/// The trace program's record.
+const RECORD_SIZE: usize = 65_536;
+
+pub trait Player {
+    type Answer;
+    fn fresh(file: &File) -> Self;
+    fn cycle(&mut self, event: u8, line_due: bool) -> Result<Self::Answer, u8>;
+    fn write(&mut self, addr: u16, byte: u8) -> Result<u8, u8>;
+    fn answer(&mut self, addr: u16, byte: u8) -> Result<(), u8>;
+    /// Held, edge, count and the accesses, as docs/PLAYER.md has them.
+    fn bytes(answer: &Self::Answer) -> [u8; raw::ANSWER_SIZE];
+    fn machine(&self) -> [u8; raw::MACHINE_SIZE];
+    fn lent(&self) -> &Lent;
+}
+
+pub struct Lent {
+    pub low: Vec<u8>,
+    pub high: Vec<u8>,
+    pub record: Vec<u8>,
+}
+
+impl Lent {
+    fn fresh(file: &File) -> Self {
+        let bank: Vec<u8> = file.fill.iter().copied().cycle().take(BANK_SIZE).collect();
+        Self { low: bank.clone(), high: bank, record: vec![0; RECORD_SIZE] }
+    }
+}
+
+pub struct Plain {
+    machine: plain::Machine,
+    lent: Lent,
+}
+
+impl Plain {
+    pub fn parts(&mut self) -> (&mut plain::Machine, plain::Lent<'_>) {
+        let Lent { low, high, record } = &mut self.lent;
+        (&mut self.machine, plain::Lent { low, high, record, rom: &[] })
+    }
+}
+
+impl Player for Plain {
+    type Answer = plain::Cycle;
+
+    fn fresh(file: &File) -> Self {
+        let machine = plain::Machine::fresh(RECORD_SIZE, BIT_CYCLES).expect("accepted");
+        Self { machine, lent: Lent::fresh(file) }
+    }
+
+    fn cycle(&mut self, event: u8, line_due: bool) -> Result<plain::Cycle, u8> {
+        let (machine, lent) = self.parts();
+        machine.cycle(lent, event, line_due, false)
+    }
+
+    fn write(&mut self, addr: u16, byte: u8) -> Result<u8, u8> {
+        let (machine, lent) = self.parts();
+        machine.write(lent, 0, addr, byte).map(|moved| moved.cost)
+    }
+
+    fn answer(&mut self, addr: u16, byte: u8) -> Result<(), u8> {
+        let (machine, lent) = self.parts();
+        machine.answer(lent, addr, byte)
+    }
+
+    fn bytes(answer: &plain::Cycle) -> [u8; raw::ANSWER_SIZE] {
+        let mut bytes = [0; raw::ANSWER_SIZE];
+        bytes[..3].copy_from_slice(&[answer.held.into(), answer.nmi.into(), answer.accesses.count as u8]);
+        for (part, access) in bytes[3..].chunks_exact_mut(5).zip(answer.accesses.items) {
+            let [low, high] = access.addr.to_le_bytes();
+            part.copy_from_slice(&[access.write.into(), access.bank, low, high, access.byte]);
+        }
+        bytes
+    }
+
+    fn machine(&self) -> [u8; raw::MACHINE_SIZE] {
+        self.machine.bytes()
+    }
+
+    fn lent(&self) -> &Lent {
+        &self.lent
+    }
+}
+
+/// The proved library, one call at a time.
+pub struct Proved {
+    machine: [u8; raw::MACHINE_SIZE],
+    lent: Lent,
+}
+
+impl Proved {
+    pub fn parts(&mut self) -> raw::Lent<'_> {
+        let Lent { low, high, record } = &mut self.lent;
+        raw::Lent { machine: &mut self.machine, low, high, record, rom: &[] }
+    }
+}
+
+fn checked<T>(number: u8, answer: T) -> Result<T, u8> {
+    if number == 0 { Ok(answer) } else { Err(number) }
+}
+
+impl Player for Proved {
+    type Answer = [u8; raw::ANSWER_SIZE];
+
+    fn fresh(file: &File) -> Self {
+        let mut machine = [0; raw::MACHINE_SIZE];
+        assert_eq!(raw::fresh(&mut machine, RECORD_SIZE, BIT_CYCLES), 0);
+        Self { machine, lent: Lent::fresh(file) }
+    }
+
+    fn cycle(&mut self, event: u8, line_due: bool) -> Result<Self::Answer, u8> {
+        let mut answer = [0; raw::ANSWER_SIZE];
+        let number = raw::cycle(self.parts(), event, line_due, false, &mut answer);
+        checked(number, answer)
+    }
+
+    fn write(&mut self, addr: u16, byte: u8) -> Result<u8, u8> {
+        let mut cost = [0];
+        let number = raw::write(self.parts(), 0, addr, byte, &mut cost);
+        checked(number, cost[0])
+    }
+
+    fn answer(&mut self, addr: u16, byte: u8) -> Result<(), u8> {
+        checked(raw::port_answer(self.parts(), addr, byte), ())
+    }
+
+    fn bytes(answer: &Self::Answer) -> [u8; raw::ANSWER_SIZE] {
+        *answer
+    }
+
+    fn machine(&self) -> [u8; raw::MACHINE_SIZE] {
+        self.machine
+    }
+
+    fn lent(&self) -> &Lent {
+        &self.lent
+    }
+}
+
+/// Banks and record of both.
+pub fn same_lent(plain: &Plain, proved: &Proved) -> Result<(), &'static str> {
+    let (ours, theirs) = (plain.lent(), proved.lent());
+    if (&ours.low, &ours.high) != (&theirs.low, &theirs.high) {
+        return Err("banks");
+    }
+    if ours.record != theirs.record { Err("records") } else { Ok(()) }
+}
+
+/// One pass over a file's script, in which every call is accepted. Each answer is kept until it is there as a whole.
+pub fn pass<P: Player>(player: &mut P, file: &File) {
+    use crate::files::Row;
+    for row in &file.rows {
+        match *row {
+            Row::Cycles { count, event, line_due } => {
+                black_box(&player.cycle(event, line_due).expect("accepted"));
+                for _ in 1..count {
+                    black_box(&player.cycle(0, false).expect("accepted"));
+                }
+            }
+            Row::Write { addr, byte } => {
+                player.write(addr, byte).expect("accepted");
+            }
+            Row::Answer { addr, byte } => player.answer(addr, byte).expect("accepted"),
+        }
+    }
+}

@@ -1,1 +1,6 @@
 pub mod Who
+pub mod Before
+pub mod Accesses
+pub mod Moves
+pub mod Turns
+pub mod Cycle

@@ -1,4 +1,4 @@
--- WMADD after a cycle is where the accesses of its log take it from the machine's, for every machine and cycle.
+-- What a listing says of a cycle is all that happened to WMADD and to work RAM: its accesses, replayed, give both, for every machine and cycle.
 use Prim.Native.Nat.{ℕ}
 use mathlib.Core.Bool.{Bool}
 use mathlib.Core.List.{List}
@@ -24,7 +24,8 @@ use Rattle.state.specs.declared.DmaState.the-variants.{Idle, Startup, Dma as Ge
 use Rattle.state.specs.declared.Machine.{Machine}
 use Rattle.transfer.specs.Bits.{lowest, down}
 use Rattle.transfer.specs.Byte.{transferByte}
-use Rattle.followed.specs.Standing.{wmAt, Stands}
+use Rattle.wram.specs.Banks.{banks}
+use Rattle.followed.specs.Standing.{wmAt, ramAt, Stands}
 use Rattle.followed.proofs.Accesses.{Follows, follows-none, follows-trans, follows-more, channel-follows, mdmaen-follows}
 use Rattle.followed.proofs.Before.{before-kept}
 use Rattle.followed.proofs.Moves.{transfer-follows}
@@ -69,16 +70,17 @@ module _ (rom : List ℕ) where
       pick-elim P (dueOf d) none (pick-elim P (ltb 0 (d .wait)) none (act-follows (d .state) (at (m .world) d)))
 
 module _ (rom : List ℕ) (m : Machine) (l h : List ℕ) (event : Event) (line hit : Bool) where
-  begun-stands : Stands (m .io .wmadd) (begun m l h event line hit .world)
-  unfolding opened wmAt
-  begun-stands = before-kept (m .io) (m .board .pad1) (m .board .pad2) event (m .board .bitcycles) hit
+  begun-stands : Stands (m .io .wmadd) (banks l h) (begun m l h event line hit .world)
+  unfolding opened wmAt ramAt
+  begun-stands = record { wmadd = before-kept (m .io) (m .board .pad1) (m .board .pad2) event (m .board .bitcycles) hit; ram = refl }
 
   begun-empty : (logs (begun m l h event line hit .world) ≡ 0) × (length (begun m l h event line hit .world .core .log .items) ≡ 11)
   unfolding opened
   begun-empty = (refl, refl)
 
-  -- from WMADD before the cycle the accesses of its log lead to WMADD after it
-  pub cycled-stands : Stands (m .io .wmadd) (cycled rom m l h event line hit .after .world)
+  -- replayed from before the cycle, the accesses of its log give WMADD and work RAM after it
+  pub cycled-stands : Stands (m .io .wmadd) (banks l h) (cycled rom m l h event line hit .after .world)
   unfolding cycled
   cycled-stands =
-      updated-follows rom (begun m l h event line hit) (m .board .clock) .keeps (m .io .wmadd) (omega (arith, begun-empty .0)) (begun-empty .1) begun-stands
+      updated-follows rom (begun m l h event line hit) (m .board .clock) .keeps (m .io .wmadd) (banks l h) (omega (arith, begun-empty .0))
+      (begun-empty .1) begun-stands

@@ -1,19 +1,32 @@
--- Where WMADD stands among the accesses of a log, as a listing takes it along.
+-- A log of accesses replayed as a listing has it: where WMADD stands before each, and what the writes leave in work RAM.
 use Prim.Native.Nat.{ℕ, zero, suc}
 use mathlib.Core.List.{List}
 use mathlib.Core.Path.{_≡_}
 use lib.ListN.{getD}
+use Rattle.common.specs.Pick.{pick}
 use Rattle.bus.specs.Access.{noAccess}
+use Rattle.bus.specs.Route.{routeOf, placeOf}
 use Rattle.bus.specs.World.{World}
 use Rattle.bus.specs.declared.access.Access.{Access}
 use Rattle.registers.specs.declared.wm_address.WmAddress.{WmAddress}
 use Rattle.touch.specs.Reach.{wmAfter}
+use Rattle.wram.specs.Banks.{Banks, poked}
 
--- after the first n of them, from s before the first
+-- WMADD after the first n accesses, from s before the first
 unfoldable pub wmAt : WmAddress → List Access → ℕ → WmAddress
 wmAt s items zero = s
 wmAt s items (suc n) = wmAfter (wmAt s items n) (getD items n noAccess)
 
--- WMADD is where the accesses logged so far take it from s
-abbrev pub Stands : WmAddress → World → Type 0
-Stands s w = w .core .io .wmadd ≡ wmAt s (w .core .log .items) (w .core .log .count)
+-- a write puts its byte where it is listed; a read puts nothing
+abbrev pub ramBy : WmAddress → Access → Banks → Banks
+ramBy w a b = pick (a .write) (poked b (placeOf w (routeOf (a .bank) (a .addr)) (a .addr)) (a .byte)) b
+
+-- work RAM after the first n accesses, from b before the first
+unfoldable pub ramAt : WmAddress → Banks → List Access → ℕ → Banks
+ramAt s b items zero = b
+ramAt s b items (suc n) = ramBy (wmAt s items n) (getD items n noAccess) (ramAt s b items n)
+
+-- WMADD and work RAM are what the accesses logged so far make of s and b
+pub record Stands (s : WmAddress) (b : Banks) (w : World) : Type 0 where
+  pub wmadd : w .core .io .wmadd ≡ wmAt s (w .core .log .items) (w .core .log .count)
+  pub ram : w .ram ≡ ramAt s b (w .core .log .items) (w .core .log .count)

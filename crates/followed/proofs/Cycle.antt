@@ -72,7 +72,7 @@ module _ (rom : List ℕ) where
 module _ (rom : List ℕ) (m : Machine) (l h : List ℕ) (event : Event) (line hit : Bool) where
   begun-stands : Stands (m .io .wmadd) (banks l h) (begun m l h event line hit .world)
   unfolding opened wmAt ramAt
-  begun-stands = record { wmadd = before-kept (m .io) (m .board .pad1) (m .board .pad2) event (m .board .bitcycles) hit; ram = refl }
+  begun-stands = record { wmadd = before-kept (m .io) (m .board .pad1) (m .board .pad2) event (m .board .bitcycles) hit; ram = refl; told = λ i k. absurd (omega arith) }
 
   begun-empty : (logs (begun m l h event line hit .world) ≡ 0) × (length (begun m l h event line hit .world .core .log .items) ≡ 11)
   unfolding opened

@@ -1,5 +1,6 @@
 pub mod Who
 pub mod Before
+pub mod Replay
 pub mod Accesses
 pub mod Moves
 pub mod Turns

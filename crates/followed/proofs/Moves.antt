@@ -1,4 +1,4 @@
--- A byte moved, an HDMA unit and the bytes of a table: WMADD goes with their accesses.
+-- A byte moved, an HDMA unit and the bytes of a table: WMADD and work RAM go with their accesses.
 use Prim.Native.Nat.{ℕ, zero, suc, _+_, _*_, _%_}
 use mathlib.Core.Bool.{Bool}
 use mathlib.Core.List.{List}

@@ -1,4 +1,4 @@
--- An entry and a line of a channel: WMADD goes with their accesses.
+-- An entry and a line of a channel: WMADD and work RAM go with their accesses.
 use Prim.Native.Nat.{ℕ}
 use mathlib.Core.Bool.{Bool}
 use mathlib.Core.List.{List}

@@ -35,7 +35,7 @@ use Rattle.registers.specs.declared.pads.AutoJoypad.the-variants as auto
 use Rattle.state.specs.declared.DmaState.the-variants as state
 use Rattle.state.specs.declared.Machine.{Machine}
 use Rattle.wram.specs.Olds.{noOld, noOlds}
-use Rattle.wram.specs.Ranges.{FitBytes}
+use Rattle.common.specs.Width.{Bytes}
 use Rattle.wram.specs.declared.Olds.{Olds}
 use Rattle.player_abi.specs.Bytes.{broken, machineOf, benchOf, stored, saved}
 use Rattle.player_abi.specs.Crossed.{crossed, answered, cycleCrossed}
@@ -106,7 +106,7 @@ tick-head m o r nmi wait clock =
     ap (λ (l : List ℕ). patched (patched l 67 (le 4 w)) 214 (le 8 c)) one ∙ ap (λ (l : List ℕ). patched l 214 (le 8 c)) two ∙ three
 
 -- every byte that an index reaches is one
-pub all-bytes : (l : List ℕ) → ((k : ℕ) → k < length l → getD l k 0 < 256) → FitBytes l
+pub all-bytes : (l : List ℕ) → ((k : ℕ) → k < length l → getD l k 0 < 256) → Bytes l
 all-bytes [] h = tt {0}
 all-bytes (x ∷ l) h = (h 0 (omega arith), all-bytes l (λ k q. h (suc k) (omega (arith, q))))
 
@@ -135,7 +135,7 @@ module _ (s : List ℕ) (long : length s ≡ 280) where
   places zero k h = refl
   places (suc n) k h = λ i. place k (omega (arith, h)) i ∷ places n (k + 1) (omega (arith, h)) i
 
-module _ (s : List ℕ) (long : length s ≡ 280) (fit : FitBytes s) (ok : entryOk (readSlot entrySize 0 s) ≡ true) (none : getD s 222 0 ≡ 0) where
+module _ (s : List ℕ) (long : length s ≡ 280) (fit : Bytes s) (ok : entryOk (readSlot entrySize 0 s) ≡ true) (none : getD s 222 0 ≡ 0) where
   abbrev m : Machine
   m = machineAt (e s long)
 
@@ -275,7 +275,7 @@ module _ (s : List ℕ) (long : length s ≡ 280) (fit : FitBytes s) (ok : entry
 
 -- ---- the law
 
-pub rest-by : (rom s l h en out : List ℕ) (event : ℕ) (line timer : Bool) → FitBytes s
+pub rest-by : (rom s l h en out : List ℕ) (event : ℕ) (line timer : Bool) → Bytes s
     → restful s (length l) (length h) (length en) (length rom) event line timer ≡ true
     → crossed 0 (rested s en out .machine) l h (rested s en out .entries) (rested s en out .out)
     ≡ cycleCrossed s out (cycleCall rom (desk (benchOf s) l h en) event line timer)
@@ -299,7 +299,7 @@ rest-by rom s l h en out event line timer fit test =
     ∙ (λ i. cycleCrossed s out (cycleCall rom (desk (sym (bench-is s long fit ok none) i) l h en) (sym ev i) (sym li i) (sym ti i)))
 
 -- the same of what the code leaves
-pub rest-crossed : (rom s l h en out : List ℕ) (event : ℕ) (line timer : Bool) {test : Bool} {m e o : List ℕ} → FitBytes s
+pub rest-crossed : (rom s l h en out : List ℕ) (event : ℕ) (line timer : Bool) {test : Bool} {m e o : List ℕ} → Bytes s
     → test ≡ restful s (length l) (length h) (length en) (length rom) event line timer → test ≡ true → resting m e o ≡ rested s en out
     → crossed 0 m l h e o ≡ cycleCrossed s out (cycleCall rom (desk (benchOf s) l h en) event line timer)
 rest-crossed rom s l h en out event line timer fit p q r =

@@ -6,7 +6,7 @@ use lib.Dec.{eqb, leb}
 use lib.ListN.{replicate}
 use Rattle.common.specs.Pick.{pick}
 use Rattle.append.specs.Sheet.{Sheet, sheet, puts, shownOf}
-use Rattle.benchfile.specs.Bytes.{partOf}
+use Rattle.fields.specs.Bytes.{partOf}
 use Rattle.benchfile.specs.File.{fileCheck}
 use Rattle.reader.specs.declared.draft.Draft.{Draft}
 use Rattle.assembler.specs.Desk.{State, opened, gathered}

@@ -8,7 +8,7 @@ use lib.Seq.{take-add, take-length, drop-drop}
 use Rattle.common.proofs.AllLaws.{byte-fits}
 use Rattle.fields.specs.Little.{le, field}
 use Rattle.fields.proofs.Number.{span-back}
-use Rattle.benchfile.specs.Bytes.{partOf}
+use Rattle.fields.specs.Bytes.{partOf}
 use Rattle.common.specs.Width.{Bytes}
 use Rattle.benchfile.specs.File.{startOf, sizeOf, endOf, bodyOf}
 use Rattle.benchfile.specs.Build.{contentsOf, build}

@@ -7,7 +7,7 @@ use native.Mathlib.Omega.{arith}
 use lib.ListN.{length, length-append}
 use Rattle.fields.specs.Little.{le, joined}
 use Rattle.fields.proofs.Number.{number}
-use Rattle.benchfile.specs.Bytes.{partOf}
+use Rattle.fields.specs.Bytes.{partOf}
 use Rattle.benchfile.specs.File.{startOf, sizeOf, bodyOf, scriptFormed, sound}
 use Rattle.benchfile.specs.Build.{contentsOf, build}
 use Rattle.benchfile.proofs.Parts.{part-at}

@@ -18,7 +18,7 @@ use Rattle.common.proofs.TableLaws.{pick-elim, find-elim}
 use Rattle.fields.specs.Little.{span, field}
 use Rattle.fields.proofs.Flag.{flag-back}
 use Rattle.fields.proofs.Number.{number, field-below}
-use Rattle.benchfile.specs.Bytes.{byteAt}
+use Rattle.fields.specs.Bytes.{byteAt}
 use Rattle.common.specs.Width.{Bytes}
 use Rattle.benchfile.specs.Row.{zeros, formTable, formedRow, fieldTable, fieldsOf, rowOf, bytesOf, FitRow, lawful}
 use Rattle.benchfile.proofs.Numbers.{lo-back, hi-back, flags-small, due-back, timer-back, flags-back}

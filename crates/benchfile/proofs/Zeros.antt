@@ -8,7 +8,7 @@ use lib.Dec.{eqb}
 use lib.ListN.{length, drop-of-length-le, replicate}
 use lib.Seq.{drop-cons}
 use borrow.Author.Tests.{eq-eqb, ne-eqb, eqb-true}
-use Rattle.benchfile.specs.Bytes.{byteAt}
+use Rattle.fields.specs.Bytes.{byteAt}
 use Rattle.benchfile.specs.Row.{allZero, zeros}
 use Rattle.benchfile.proofs.Tests.{both}
 

@@ -6,7 +6,7 @@ use lib.ListN.{length}
 use lib.Dec.{leb, eqb}
 use Rattle.common.specs.Pick.{pick}
 use Rattle.fields.specs.Little.{field}
-use Rattle.benchfile.specs.Bytes.{partOf}
+use Rattle.fields.specs.Bytes.{partOf}
 use Rattle.benchfile.specs.Row.{formedRow, rowBytes}
 
 -- contents first, a row of 8 bytes for each section: where it starts (4 bytes)

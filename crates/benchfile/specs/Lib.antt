@@ -1,5 +1,4 @@
--- Bench files: bytes, rows, the file and its sections, and how one is put together.
-pub mod Bytes
+-- Bench files: rows, the file and its sections, and how one is put together.
 pub mod Row
 pub mod File
 pub mod Build

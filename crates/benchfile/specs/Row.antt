@@ -9,7 +9,7 @@ use Rattle.common.specs.Pick.{pick}
 use Rattle.common.specs.Width.{Word}
 use Rattle.common.specs.Table.{Entry, find, at}
 use Rattle.fields.specs.Little.{le, field}
-use Rattle.benchfile.specs.Bytes.{byteAt, partOf}
+use Rattle.fields.specs.Bytes.{byteAt, partOf}
 use Rattle.benchfile.specs.declared.row.Row.{Row}
 use Rattle.benchfile.specs.declared.row.Row.the-variants.{Cycles, Read, Write, Pad, Plug, Answer, Back, Broken}
 

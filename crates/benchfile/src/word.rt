@@ -1,7 +1,7 @@
 // Little-endian numbers at a place of a slice. A byte past the end reads 0.
 ghost use mathlib.Core.Path.{_≡_};
 ghost use denote.Ref.{now};
-ghost use Rattle.benchfile.specs.Bytes.{byteAt};
+ghost use Rattle.fields.specs.Bytes.{byteAt};
 ghost use Rattle.fields.specs.Little.{field};
 use common::u16_split;
 

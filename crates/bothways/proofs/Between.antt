@@ -5,7 +5,7 @@ use mathlib.Core.List.{List, [], _∷_}
 use mathlib.Core.Path.{_≡_, refl, sym, ap, _∙_}
 use lib.Dec.{eqb}
 use Rattle.append.specs.Sheet.{Sheet, puts}
-use Rattle.benchfile.specs.Bytes.{byteAt}
+use Rattle.fields.specs.Bytes.{byteAt}
 use Rattle.common.specs.Width.{Bytes}
 use Rattle.benchfile.specs.Row.{formedRow}
 use Rattle.benchfile.proofs.Tests.{never}

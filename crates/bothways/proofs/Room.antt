@@ -9,7 +9,7 @@ use Rattle.append.specs.Texts.{each}
 use Rattle.common.proofs.AllLaws.{byte-fits}
 use Rattle.common.specs.Pick.{pick}
 use Rattle.common.specs.Table.{Entry, among, find}
-use Rattle.benchfile.specs.Bytes.{byteAt, partOf}
+use Rattle.fields.specs.Bytes.{byteAt, partOf}
 use Rattle.common.specs.Width.{Bytes}
 use Rattle.fields.specs.Little.{field}
 use Rattle.benchfile.specs.Row.{rowBytes}

@@ -11,7 +11,7 @@ use lib.Dec.{leb, eqb}
 use borrow.Author.Tests.{leb-true, eqb-true}
 use Rattle.common.proofs.AllLaws.{byte-fits}
 use Rattle.common.specs.Table.{find}
-use Rattle.benchfile.specs.Bytes.{byteAt}
+use Rattle.fields.specs.Bytes.{byteAt}
 use Rattle.common.specs.Width.{Bytes}
 use Rattle.fields.specs.Little.{span, field}
 use Rattle.benchfile.specs.declared.row.Row.{Row}

@@ -8,7 +8,7 @@ use lib.ListN.{length}
 use lib.Seq.{take-all}
 use Rattle.common.proofs.AllLaws.{byte-fits}
 use Rattle.append.specs.Sheet.{Sheet, puts}
-use Rattle.benchfile.specs.Bytes.{byteAt}
+use Rattle.fields.specs.Bytes.{byteAt}
 use Rattle.common.specs.Width.{Bytes}
 use Rattle.fields.specs.Little.{field}
 use Rattle.benchfile.specs.File.{scriptFormed}

@@ -3,8 +3,8 @@ use Prim.Native.Nat.{ℕ, _+_}
 use mathlib.Core.Bool.{Bool}
 use mathlib.Core.List.{List, [], _∷_}
 use lib.Dec.{eqb}
-use lib.ListN.{getD}
 use Rattle.decode.specs.Cases.{bankOf, autoOf, progressOf, stateOf}
+use Rattle.fields.specs.Bytes.{byteAt}
 use Rattle.fields.specs.Little.{span, field}
 use Rattle.joypad.specs.declared.ControllerPort.{ControllerPort}
 use Rattle.registers.specs.declared.Enables.{Enables}
@@ -27,7 +27,7 @@ use Rattle.wram.specs.declared.Olds.{Olds}
 module _ (e : List ℕ) where
   -- the byte at a place, and the flag there
   abbrev pub at : ℕ → ℕ
-  at k = getD e k 0
+  at k = byteAt e k
 
   abbrev pub flagAt : ℕ → Bool
   flagAt k = eqb (at k) 1

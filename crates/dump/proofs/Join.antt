@@ -4,7 +4,7 @@ use mathlib.Core.List.{List, [], _∷_, _++_}
 use mathlib.Core.Path.{_≡_, _∙_}
 use Rattle.append.specs.Sheet.{Sheet, puts}
 use Rattle.append.proofs.Laws.{then}
-use Rattle.benchfile.specs.Bytes.{partOf}
+use Rattle.fields.specs.Bytes.{partOf}
 use Rattle.dump.specs.Page.{headText, bytesText, signsText, lineText}
 
 pub lined : (s : Sheet) {a b c d e f g : Sheet} (p k : ℕ) (l : List ℕ) {head x y : List ℕ}

@@ -3,7 +3,7 @@ use Prim.Native.Nat.{ℕ, _+_, _*_, _/_, _%_}
 use mathlib.Core.List.{List, [], _∷_, _++_}
 use Rattle.common.specs.Pick.{pick}
 use Rattle.common.specs.Range.{within}
-use Rattle.benchfile.specs.Bytes.{partOf}
+use Rattle.fields.specs.Bytes.{partOf}
 use Rattle.append.specs.Number.{glyphOf, hexByte, hexes}
 use Rattle.append.specs.Texts.{each}
 

@@ -4,7 +4,7 @@ use mathlib.Core.List.{List}
 use lib.Dec.{eqb, ltb}
 use lib.ListN.{length}
 use Rattle.common.specs.Pick.{pick}
-use Rattle.benchfile.specs.Bytes.{byteAt, partOf}
+use Rattle.fields.specs.Bytes.{byteAt, partOf}
 use Rattle.reader.specs.Letter.{digitOf}
 
 -- the number of two digits in base 16; 256 where one of them is none

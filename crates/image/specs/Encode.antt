@@ -2,7 +2,7 @@
 -- operation overwrote. The number behind each line is the place at which document 01 has the field.
 use Prim.Native.Nat.{ℕ}
 use mathlib.Core.List.{List, _++_}
-use lib.ListN.{getD, take, drop, replicate}
+use lib.ListN.{getD, replicate}
 use Rattle.fields.specs.Little.{le}
 use Rattle.image.specs.Groups.{byte, flag, rows, bytes, bankByte, autoKind, autoBits, autoCountdown, encPort, stateByte, present, progressChannel, progressUnit, encLine, encChannel, encOld}
 use Rattle.registers.specs.Channel.{noChannel}
@@ -90,7 +90,3 @@ unfoldable pub encode : Machine → Olds → List ℕ
 encode m o = image m  -- 0
     ++ encOlds o  -- 222
     ++ replicate 17 0  -- 239
-
--- n bytes of an image from place k
-abbrev pub part : ℕ → ℕ → List ℕ → List ℕ
-part k n s = take n (drop k s)

@@ -1,6 +1,7 @@
 // Places 59 to 193 of the image: the DMA unit, its HDMA lines and the channels' registers.
 ghost use mathlib.Core.Path.{_≡_};
-ghost use Rattle.image.specs.Encode.{encLines, encChannels, image, part};
+ghost use Rattle.fields.specs.Bytes.{partOf};
+ghost use Rattle.image.specs.Encode.{encLines, encChannels, image};
 ghost use Rattle.image.specs.Groups.{stateByte, present, progressChannel, progressUnit, encChannel};
 use fields::put;
 use registers::channel::DmaChannel;
@@ -51,7 +52,7 @@ fn progress_unit(p: DmaProgress) -> u32
 }
 
 pub fn dma_bytes(m: Machine) -> [u8; 15]
-    ensures { λ r. ⌜ r ≡ part 59 15 (image m) ⌝ }
+    ensures { λ r. ⌜ r ≡ partOf (image m) 59 15 ⌝ }
 {
     let d = m.dma;
     let s = d.state;

@@ -1,6 +1,7 @@
 // Places 34 to 58 of the image: the automatic read, both controller ports, the pad words, the NMI line and the bit cycles.
 ghost use mathlib.Core.Path.{_≡_};
-ghost use Rattle.image.specs.Encode.{image, part};
+ghost use Rattle.fields.specs.Bytes.{partOf};
+ghost use Rattle.image.specs.Encode.{image};
 ghost use Rattle.image.specs.Groups.{autoKind, autoBits, autoCountdown};
 use registers::pads::AutoJoypad;
 use state::Machine;
@@ -39,7 +40,7 @@ fn auto_countdown(a: AutoJoypad) -> u32
 }
 
 pub fn pads_bytes(m: Machine) -> [u8; 25]
-    ensures { λ r. ⌜ r ≡ part 34 25 (image m) ⌝ }
+    ensures { λ r. ⌜ r ≡ partOf (image m) 34 25 ⌝ }
 {
     let io = m.io;
     let pads = io.pads;

@@ -1,7 +1,8 @@
 // Places 0 to 33 of the image, the registers up to JOY4, and 194 to 221, what PPU and APU answer and the clock.
 ghost use mathlib.Core.Path.{_≡_};
 ghost use Rattle.fields.specs.Little.{le};
-ghost use Rattle.image.specs.Encode.{encPorts, image, part};
+ghost use Rattle.fields.specs.Bytes.{partOf};
+ghost use Rattle.image.specs.Encode.{encPorts, image};
 ghost use Rattle.image.specs.Groups.{bankByte};
 use registers::Ports;
 use registers::wm_address::WmAddBank;
@@ -17,7 +18,7 @@ fn bank_byte(bank: WmAddBank) -> u8
 }
 
 pub fn register_bytes(m: Machine) -> [u8; 34]
-    ensures { λ r. ⌜ r ≡ part 0 34 (image m) ⌝ }
+    ensures { λ r. ⌜ r ≡ partOf (image m) 0 34 ⌝ }
 {
     let io = m.io;
     let w = io.wmadd;

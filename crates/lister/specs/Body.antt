@@ -2,7 +2,7 @@
 use Prim.Native.Nat.{ℕ, _+_, _*_, _/_}
 use mathlib.Core.List.{List, [], _∷_, _++_}
 use lib.ListN.{length}
-use Rattle.benchfile.specs.Bytes.{partOf}
+use Rattle.fields.specs.Bytes.{partOf}
 use Rattle.append.specs.Number.{hexes}
 use Rattle.append.specs.Texts.{each}
 

@@ -2,7 +2,7 @@
 use Prim.Native.Nat.{ℕ, _/_, _%_}
 use mathlib.Core.Bool.{Bool, true, false}
 use mathlib.Core.List.{List, [], _∷_, _++_}
-use mathlib.Core.Path.{_≡_, sym, ap, _∙_}
+use mathlib.Core.Path.{_≡_, sym, _∙_}
 use lib.Dec.{eqb, ltb}
 use Rattle.append.specs.Number.{decimal, padded}
 use Rattle.append.specs.Sheet.{Sheet, puts}
@@ -14,7 +14,7 @@ use Rattle.touch.specs.Who.{whoOf, startsAtZero}
 use Rattle.touch.specs.declared.reach.Reach.{Reach}
 use Rattle.touch.specs.declared.who.Who.{Who}
 use Rattle.wording.specs.Words.{wordsOf}
-use Rattle.listing.specs.Line.{headText, whoText, verbText, addressText, placeText, spotText, ownText, zeroText, shows, accessText}
+use Rattle.listing.specs.Line.{headText, whoText, verbText, addressText, spotText, ownText, zeroText, shows, accessText}
 use Rattle.listing.specs.Cycle.{edgeWords, logText, edgeText, cycleText}
 use Rattle.listing.specs.Event.{heldWord, ofWord, cyclesWord, beforeWords, afterWords, ofRowWords, backWord, stepsWords, refusalWord, heldText, originText, backText, refusedText, endText}
 use Rattle.listing.specs.declared.line.Line.{Line}

@@ -1,6 +1,6 @@
 -- The line of an access (docs/MOVES.md): row, clock, who, read or write, address and byte, the byte of work RAM, and two marks.
 use Prim.Native.Nat.{ℕ, _+_, _/_, _%_}
-use mathlib.Core.Bool.{Bool, true, false, _||_}
+use mathlib.Core.Bool.{Bool, _||_}
 use mathlib.Core.List.{List, [], _∷_, _++_}
 use lib.Dec.{eqb, ltb}
 use Rattle.common.specs.Pick.{pick}

@@ -23,8 +23,8 @@ fn over(next: usize, rows: usize, number: u8) -> bool {
     rows <= next
 }
 
-// All steps of a script. What the buffer has goes out after so many steps or when the next might have no room. A row has at most 65,535
-// steps and each turn makes at least one, so `turns` are enough.
+// All steps of a script. What the buffer has goes out after so many steps or when the next might have no room. A file has fewer than 2^13 rows
+// and a row fewer than 2^16 steps, so 2^29 turns of at least one step are enough.
 fn write_script(
     start: Walk,
     low: &mut [u8],

@@ -9,7 +9,7 @@ use lib.Dec.{leb, eqb}
 use lib.ListN.{length}
 use Rattle.bench.specs.Calls.{Desk, freshCall}
 use Rattle.bench.specs.declared.operate.Answer.{Answer}
-use Rattle.benchfile.specs.Bytes.{byteAt}
+use Rattle.fields.specs.Bytes.{byteAt}
 use Rattle.fields.specs.Little.{field}
 use Rattle.benchfile.specs.File.{fileCheck, sectionOf}
 use Rattle.benchfile.specs.Row.{rowOf, rowBytes}

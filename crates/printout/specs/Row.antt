@@ -2,7 +2,7 @@
 use Prim.Native.Nat.{ℕ}
 use mathlib.Core.List.{List}
 use Rattle.bench.specs.Calls.{Desk}
-use Rattle.benchfile.specs.Bytes.{byteAt}
+use Rattle.fields.specs.Bytes.{byteAt}
 use Rattle.benchfile.specs.Row.{rowOf}
 use Rattle.script.specs.Run.{Running, ran}
 use Rattle.script.specs.Row.{rowRun}

@@ -3,7 +3,7 @@ use Prim.Native.Nat.{ℕ}
 use mathlib.Core.Bool.{Bool, _||_}
 use mathlib.Core.List.{List, [], _∷_, map}
 use lib.Dec.{leb, ltb, eqb}
-use lib.ListN.{getD}
+use Rattle.fields.specs.Bytes.{byteAt}
 use Rattle.fields.specs.Little.{span, field}
 use Rattle.ranges.specs.Tests.{all, when, lowZero}
 
@@ -43,7 +43,7 @@ oldTests count i place byte = ltb place 131072 ∷ when (leb count i) (all (eqb 
 module _ (e : List ℕ) where
   -- the byte at a place
   abbrev pub at : ℕ → ℕ
-  at k = getD e k 0
+  at k = byteAt e k
 
   -- zeros: 239-255
   abbrev pub zeroTests : List Bool

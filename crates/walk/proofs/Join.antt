@@ -9,10 +9,10 @@ use lib.Dec.{leb, eqb}
 use lib.ListN.{length, getD}
 use Rattle.append.specs.Sheet.{Sheet, puts}
 use Rattle.append.proofs.Laws.{puts-none}
-use Rattle.bench.specs.Calls.{Desk, CycleOut, cycleCall}
+use Rattle.bench.specs.Calls.{CycleOut, cycleCall}
 use Rattle.benchfile.specs.Row.{rowOf, rowBytes}
 use Rattle.benchfile.specs.declared.row.Row.{Row}
-use Rattle.benchfile.specs.declared.row.Row.the-variants.{Cycles, Read, Write, Pad, Plug, Answer, Back, Broken}
+use Rattle.benchfile.specs.declared.row.Row.the-variants.{Cycles, Read, Write, Back, Broken}
 use Rattle.listing.specs.Cycle.{cycleText}
 use Rattle.listing.specs.Event.{backText, refusedText, endText}
 use Rattle.listing.specs.Line.{accessText}

@@ -4,210 +4,159 @@ use Rattle.common.proofs.TableLaws.{find-none}
 use borrow.Author.Needs.{needs}
 use Rattle.wording.proofs.words.Statement.{statement}
 use Rattle.wording.proofs.words.Tie as tie
-use Rattle.wording.proofs.words.Reads as reads
-use Rattle.wording.proofs.words.Lts as lts
-use Rattle.append.proofs.put.Reads as put-reads
 
--- src/lib.rt:13:27
 slice-aggregate-put : tie.Need-slice-aggregate-put
 slice-aggregate-put c = search needs
 
--- src/lib.rt:13:14
 put-requires : tie.Need-put-requires
 put-requires c κs = search needs
 
--- src/lib.rt:14:27
 slice-aggregate-put-2 : tie.Need-slice-aggregate-put-2
 slice-aggregate-put-2 c = search needs
 
--- src/lib.rt:14:14
 put-requires-2 : tie.Need-put-requires-2
 put-requires-2 c κs = search needs
 
--- src/lib.rt:15:27
 slice-aggregate-put-3 : tie.Need-slice-aggregate-put-3
 slice-aggregate-put-3 c = search needs
 
--- src/lib.rt:15:14
 put-requires-3 : tie.Need-put-requires-3
 put-requires-3 c κs = search needs
 
--- src/lib.rt:16:27
 slice-aggregate-put-4 : tie.Need-slice-aggregate-put-4
 slice-aggregate-put-4 c = search needs
 
--- src/lib.rt:16:14
 put-requires-4 : tie.Need-put-requires-4
 put-requires-4 c κs = search needs
 
--- src/lib.rt:17:27
 slice-aggregate-put-5 : tie.Need-slice-aggregate-put-5
 slice-aggregate-put-5 c = search needs
 
--- src/lib.rt:17:14
 put-requires-5 : tie.Need-put-requires-5
 put-requires-5 c κs = search needs
 
--- src/lib.rt:21:13
 slice-aggregate-put-6 : tie.Need-slice-aggregate-put-6
 slice-aggregate-put-6 c = search needs
 
--- src/lib.rt:18:14
 put-requires-6 : tie.Need-put-requires-6
 put-requires-6 c κs = search needs
 
--- src/lib.rt:23:27
 slice-aggregate-put-7 : tie.Need-slice-aggregate-put-7
 slice-aggregate-put-7 c = search needs
 
--- src/lib.rt:23:14
 put-requires-7 : tie.Need-put-requires-7
 put-requires-7 c κs = search needs
 
--- src/lib.rt:24:27
 slice-aggregate-put-8 : tie.Need-slice-aggregate-put-8
 slice-aggregate-put-8 c = search needs
 
--- src/lib.rt:24:14
 put-requires-8 : tie.Need-put-requires-8
 put-requires-8 c κs = search needs
 
--- src/lib.rt:25:27
 slice-aggregate-put-9 : tie.Need-slice-aggregate-put-9
 slice-aggregate-put-9 c = search needs
 
--- src/lib.rt:25:14
 put-requires-9 : tie.Need-put-requires-9
 put-requires-9 c κs = search needs
 
--- src/lib.rt:26:28
 slice-aggregate-put-10 : tie.Need-slice-aggregate-put-10
 slice-aggregate-put-10 c = search needs
 
--- src/lib.rt:26:15
 put-requires-10 : tie.Need-put-requires-10
 put-requires-10 c κs = search needs
 
--- src/lib.rt:27:28
 slice-aggregate-put-11 : tie.Need-slice-aggregate-put-11
 slice-aggregate-put-11 c = search needs
 
--- src/lib.rt:27:15
 put-requires-11 : tie.Need-put-requires-11
 put-requires-11 c κs = search needs
 
--- src/lib.rt:28:27
 slice-aggregate-put-12 : tie.Need-slice-aggregate-put-12
 slice-aggregate-put-12 c = search needs
 
--- src/lib.rt:28:14
 put-requires-12 : tie.Need-put-requires-12
 put-requires-12 c κs = search needs
 
--- src/lib.rt:9:1
 same-length : tie.Need-same-length
 same-length c = search needs
 
--- src/lib.rt:9:1
 returns : tie.Need-returns
 unfolding wordsOf
 returns c = said _ (c .before .before .before .before .before .match .keys1) (c .before .before .put .ensures)
 
--- src/lib.rt:9:1
 same-length-2 : tie.Need-same-length-2
 same-length-2 c = search needs
 
--- src/lib.rt:9:1
 returns-2 : tie.Need-returns-2
 unfolding wordsOf
 returns-2 c = said _ (c .before .before .before .before .before .match .keys2) (c .before .before .put2 .ensures)
 
--- src/lib.rt:9:1
 same-length-3 : tie.Need-same-length-3
 same-length-3 c = search needs
 
--- src/lib.rt:9:1
 returns-3 : tie.Need-returns-3
 unfolding wordsOf
 returns-3 c = said _ (c .before .before .before .before .before .match .keys3) (c .before .before .put3 .ensures)
 
--- src/lib.rt:9:1
 same-length-4 : tie.Need-same-length-4
 same-length-4 c = search needs
 
--- src/lib.rt:9:1
 returns-4 : tie.Need-returns-4
 unfolding wordsOf
 returns-4 c = said _ (c .before .before .before .before .before .match .keys4) (c .before .before .put4 .ensures)
 
--- src/lib.rt:9:1
 same-length-5 : tie.Need-same-length-5
 same-length-5 c = search needs
 
--- src/lib.rt:9:1
 returns-5 : tie.Need-returns-5
 unfolding wordsOf
 returns-5 c = said _ (c .before .before .before .before .before .match .keys5) (c .before .before .put5 .ensures)
 
--- src/lib.rt:9:1
 same-length-6 : tie.Need-same-length-6
 same-length-6 c = search needs
 
--- src/lib.rt:9:1
 returns-6 : tie.Need-returns-6
 unfolding wordsOf
 returns-6 c = said _ (c .before .before .before .before .before .match .keys6) (c .before .before .put6 .ensures)
 
--- src/lib.rt:9:1
 same-length-7 : tie.Need-same-length-7
 same-length-7 c = search needs
 
--- src/lib.rt:9:1
 returns-7 : tie.Need-returns-7
 unfolding wordsOf
 returns-7 c = said _ (c .before .before .before .before .before .match .keys7) (c .before .before .put7 .ensures)
 
--- src/lib.rt:9:1
 same-length-8 : tie.Need-same-length-8
 same-length-8 c = search needs
 
--- src/lib.rt:9:1
 returns-8 : tie.Need-returns-8
 unfolding wordsOf
 returns-8 c = said _ (c .before .before .before .before .before .match .keys8) (c .before .before .put8 .ensures)
 
--- src/lib.rt:9:1
 same-length-9 : tie.Need-same-length-9
 same-length-9 c = search needs
 
--- src/lib.rt:9:1
 returns-9 : tie.Need-returns-9
 unfolding wordsOf
 returns-9 c = said _ (c .before .before .before .before .before .match .keys9) (c .before .before .put9 .ensures)
 
--- src/lib.rt:9:1
 same-length-10 : tie.Need-same-length-10
 same-length-10 c = search needs
 
--- src/lib.rt:9:1
 returns-10 : tie.Need-returns-10
 unfolding wordsOf
 returns-10 c = said _ (c .before .before .before .before .before .match .keys10) (c .before .before .put10 .ensures)
 
--- src/lib.rt:9:1
 same-length-11 : tie.Need-same-length-11
 same-length-11 c = search needs
 
--- src/lib.rt:9:1
 returns-11 : tie.Need-returns-11
 unfolding wordsOf
 returns-11 c = said _ (c .before .before .before .before .before .match .keys11) (c .before .before .put11 .ensures)
 
--- src/lib.rt:9:1
 same-length-12 : tie.Need-same-length-12
 same-length-12 c = search needs
 
--- src/lib.rt:9:1
 returns-12 : tie.Need-returns-12
 unfolding wordsOf
 returns-12 c = told _ (find-none Unit refusals _ pageWords (c .before .before .before .before .before .match .rest)) (c .before .before .put12 .ensures)

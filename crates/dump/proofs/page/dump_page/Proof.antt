@@ -4,7 +4,7 @@ use lib.ListN.{length}
 use native.Mathlib.Omega.{arith}
 use Rattle.append.specs.Sheet.{sheet, puts}
 use Rattle.append.specs.Texts.{each}
-use Rattle.benchfile.specs.Bytes.{partOf}
+use Rattle.fields.specs.Bytes.{partOf}
 use Rattle.dump.specs.Page.{lineText, pageText}
 use Rattle.append.proofs.Laws.{each-next, each-end}
 use Rattle.dump.proofs.page.dump_page.Statement.{statement}

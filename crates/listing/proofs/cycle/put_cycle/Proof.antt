@@ -2,34 +2,22 @@ use Rattle.listing.proofs.Join.{cycle-joined}
 use borrow.Author.Needs.{needs}
 use Rattle.listing.proofs.cycle.put_cycle.Statement.{statement}
 use Rattle.listing.proofs.cycle.put_cycle.Tie as tie
-use Rattle.listing.proofs.cycle.put_cycle.Reads as reads
-use Rattle.listing.proofs.cycle.put_cycle.Lts as lts
-use Rattle.listing.proofs.cycle.put_edge.Reads as put-edge-reads
-use Rattle.listing.proofs.cycle.put_log.Reads as put-log-reads
-use Rattle.touch.proofs.who.starts_at_zero.Reads as starts-at-zero-reads
-use Rattle.touch.proofs.who.who_of.Reads as who-of-reads
 
--- src/cycle.rt:77:9
 who-of-requires : tie.Need-who-of-requires
 who-of-requires c κs = search needs
 
--- src/cycle.rt:78:9
 starts-at-zero-requires : tie.Need-starts-at-zero-requires
 starts-at-zero-requires c κs = search needs
 
--- src/cycle.rt:85:9
 put-log-requires : tie.Need-put-log-requires
 put-log-requires c κs = search needs
 
--- src/cycle.rt:86:5
 put-edge-requires : tie.Need-put-edge-requires
 put-edge-requires c κs = search needs
 
--- src/cycle.rt:62:1
 same-length : tie.Need-same-length
 same-length c = search needs
 
--- src/cycle.rt:62:1
 returns : tie.Need-returns
 returns c = cycle-joined _ _ _ _ _ _ (c .before .before .before .before .before .before .before .before .before .who-of .ensures) (c .before .before .before .before .before .before .before .before .starts-at-zero .ensures) (c .before .before .before .before .before .before .put-log .ensures) (c .before .before .put-edge .ensures)
 

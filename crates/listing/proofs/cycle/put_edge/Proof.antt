@@ -3,36 +3,25 @@ use borrow.Author.Tests.{not-true, not-false, eq-eqb, ne-eqb}
 use borrow.Author.Needs.{needs}
 use Rattle.listing.proofs.cycle.put_edge.Statement.{statement}
 use Rattle.listing.proofs.cycle.put_edge.Tie as tie
-use Rattle.listing.proofs.cycle.put_edge.Reads as reads
-use Rattle.listing.proofs.cycle.put_edge.Lts as lts
-use Rattle.append.proofs.put.Reads as put-reads
-use Rattle.listing.proofs.line.head.Reads as head-reads
 
--- src/cycle.rt:51:9
 returns : tie.Need-returns
 returns c = edge-none _ _ _ _ _ (not-true _ (c .if1 .taken))
 
--- src/cycle.rt:54:9
 returns-2 : tie.Need-returns-2
 returns-2 c = edge-left _ _ _ _ _ (not-false _ (c .before .if1 .left)) (ne-eqb _ _ (c .if2 .taken))
 
--- src/cycle.rt:56:9
 head-requires : tie.Need-head-requires
 head-requires c κs = search needs
 
--- src/cycle.rt:57:17
 slice-aggregate-put : tie.Need-slice-aggregate-put
 slice-aggregate-put c = search needs
 
--- src/cycle.rt:57:5
 put-requires : tie.Need-put-requires
 put-requires c κs = search needs
 
--- src/cycle.rt:47:1
 same-length : tie.Need-same-length
 same-length c = search needs
 
--- src/cycle.rt:47:1
 returns-3 : tie.Need-returns-3
 returns-3 c = edge-joined _ _ _ _ _ (not-false _ (c .before .before .before .before .before .before .before .before .before .before .if1 .left)) (eq-eqb _ _ (c .before .before .before .before .before .before .before .before .before .if2 .left)) (c .before .before .before .before .before .before .before .head .ensures) (c .before .before .put .ensures)
 

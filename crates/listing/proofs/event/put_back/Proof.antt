@@ -3,70 +3,49 @@ use borrow.Author.Tests.{eq-eqb, ne-eqb}
 use borrow.Author.Needs.{needs}
 use Rattle.listing.proofs.event.put_back.Statement.{statement}
 use Rattle.listing.proofs.event.put_back.Tie as tie
-use Rattle.listing.proofs.event.put_back.Reads as reads
-use Rattle.listing.proofs.event.put_back.Lts as lts
-use Rattle.append.proofs.number.decimal.Reads as decimal-reads
-use Rattle.append.proofs.put.Reads as put-reads
-use Rattle.listing.proofs.event.put_origin.Reads as put-origin-reads
-use Rattle.listing.proofs.line.head.Reads as head-reads
 
--- src/event.rt:63:9
 returns : tie.Need-returns
 returns c = back-none _ _ _ _ _ _ (eq-eqb _ _ (c .if1 .taken))
 
--- src/event.rt:65:9
 head-requires : tie.Need-head-requires
 head-requires c κs = search needs
 
--- src/event.rt:66:25
 slice-aggregate-put : tie.Need-slice-aggregate-put
 slice-aggregate-put c = search needs
 
--- src/event.rt:66:9
 put-requires : tie.Need-put-requires
 put-requires c κs = search needs
 
--- src/event.rt:67:9
 decimal-requires : tie.Need-decimal-requires
 decimal-requires c κs = search needs
 
--- src/event.rt:68:25
 slice-aggregate-put-2 : tie.Need-slice-aggregate-put-2
 slice-aggregate-put-2 c = search needs
 
--- src/event.rt:68:9
 put-requires-2 : tie.Need-put-requires-2
 put-requires-2 c κs = search needs
 
--- src/event.rt:69:9
 decimal-requires-2 : tie.Need-decimal-requires-2
 decimal-requires-2 c κs = search needs
 
--- src/event.rt:70:25
 slice-aggregate-put-3 : tie.Need-slice-aggregate-put-3
 slice-aggregate-put-3 c = search needs
 
--- src/event.rt:70:9
 put-requires-3 : tie.Need-put-requires-3
 put-requires-3 c κs = search needs
 
--- src/event.rt:71:9
 put-origin-requires : tie.Need-put-origin-requires
 put-origin-requires c κs = search needs
 
--- src/event.rt:72:17
 slice-aggregate-put-4 : tie.Need-slice-aggregate-put-4
 slice-aggregate-put-4 c = search needs
 
--- src/event.rt:72:5
 put-requires-4 : tie.Need-put-requires-4
 put-requires-4 c κs = search needs
 
--- src/event.rt:51:1
 same-length : tie.Need-same-length
 same-length c = search needs
 
--- src/event.rt:51:1
 returns-2 : tie.Need-returns-2
 returns-2 c = back-joined _ _ _ _ _ _ (ne-eqb _ _ (c .before .before .before .before .before .before .before .before .before .before .before .before .before .before .before .before .before .before .before .before .before .before .before .before .before .before .before .before .before .before .before .before .before .before .before .before .if1 .left)) (c .before .before .before .before .before .before .before .before .before .before .before .before .before .before .before .before .before .before .before .before .before .before .before .before .before .before .before .before .before .before .before .before .before .before .head .ensures) (c .before .before .before .before .before .before .before .before .before .before .before .before .before .before .before .before .before .before .before .before .before .before .before .before .before .before .before .before .before .put .ensures) (c .before .before .before .before .before .before .before .before .before .before .before .before .before .before .before .before .before .before .before .before .before .before .before .before .before .decimal .ensures) (c .before .before .before .before .before .before .before .before .before .before .before .before .before .before .before .before .before .before .before .before .put2 .ensures) (c .before .before .before .before .before .before .before .before .before .before .before .before .before .before .before .before .decimal2 .ensures) (c .before .before .before .before .before .before .before .before .before .before .before .put3 .ensures) (c .before .before .before .before .before .before .before .put-origin .ensures) (c .before .before .put4 .ensures)
 

@@ -3,36 +3,25 @@ use borrow.Author.Tests.{eq-eqb, ne-eqb, lt-ltb, le-ltb}
 use borrow.Author.Needs.{needs}
 use Rattle.listing.proofs.event.put_end.Statement.{statement}
 use Rattle.listing.proofs.event.put_end.Tie as tie
-use Rattle.listing.proofs.event.put_end.Reads as reads
-use Rattle.listing.proofs.event.put_end.Lts as lts
-use Rattle.listing.proofs.event.put_held.Reads as put-held-reads
-use Rattle.listing.proofs.event.put_refused.Reads as put-refused-reads
 
--- src/event.rt:105:9
 put-refused-requires : tie.Need-put-refused-requires
 put-refused-requires c κs = search needs
 
--- src/event.rt:105:9
 same-length : tie.Need-same-length
 same-length c = search needs
 
--- src/event.rt:105:9
 returns : tie.Need-returns
 returns c = end-refused _ _ _ _ _ _ _ _ (ne-eqb _ _ (c .before .before .before .before .if1 .taken)) (c .before .before .put-refused .ensures)
 
--- src/event.rt:108:9
 returns-2 : tie.Need-returns-2
 returns-2 c = end-none _ _ _ _ _ _ _ _ (eq-eqb _ _ (c .before .if1 .left)) (lt-ltb _ _ (c .if2 .taken))
 
--- src/event.rt:110:5
 put-held-requires : tie.Need-put-held-requires
 put-held-requires c κs = search needs
 
--- src/event.rt:91:1
 same-length-2 : tie.Need-same-length-2
 same-length-2 c = search needs
 
--- src/event.rt:91:1
 returns-3 : tie.Need-returns-3
 returns-3 c = end-held _ _ _ _ _ _ _ _ (eq-eqb _ _ (c .before .before .before .before .before .if1 .left)) (le-ltb _ _ (c .before .before .before .before .if2 .left)) (c .before .before .put-held .ensures)
 

@@ -3,57 +3,40 @@ use borrow.Author.Tests.{eq-eqb, ne-eqb}
 use borrow.Author.Needs.{needs}
 use Rattle.listing.proofs.event.put_held.Statement.{statement}
 use Rattle.listing.proofs.event.put_held.Tie as tie
-use Rattle.listing.proofs.event.put_held.Reads as reads
-use Rattle.listing.proofs.event.put_held.Lts as lts
-use Rattle.append.proofs.number.decimal.Reads as decimal-reads
-use Rattle.append.proofs.put.Reads as put-reads
-use Rattle.listing.proofs.line.head.Reads as head-reads
 
--- src/event.rt:24:9
 returns : tie.Need-returns
 returns c = held-none _ _ _ _ _ _ (ne-eqb _ _ (c .if1 .taken))
 
--- src/event.rt:26:9
 head-requires : tie.Need-head-requires
 head-requires c κs = search needs
 
--- src/event.rt:27:25
 slice-aggregate-put : tie.Need-slice-aggregate-put
 slice-aggregate-put c = search needs
 
--- src/event.rt:27:9
 put-requires : tie.Need-put-requires
 put-requires c κs = search needs
 
--- src/event.rt:28:9
 decimal-requires : tie.Need-decimal-requires
 decimal-requires c κs = search needs
 
--- src/event.rt:29:25
 slice-aggregate-put-2 : tie.Need-slice-aggregate-put-2
 slice-aggregate-put-2 c = search needs
 
--- src/event.rt:29:9
 put-requires-2 : tie.Need-put-requires-2
 put-requires-2 c κs = search needs
 
--- src/event.rt:30:9
 decimal-requires-2 : tie.Need-decimal-requires-2
 decimal-requires-2 c κs = search needs
 
--- src/event.rt:31:17
 slice-aggregate-put-3 : tie.Need-slice-aggregate-put-3
 slice-aggregate-put-3 c = search needs
 
--- src/event.rt:31:5
 put-requires-3 : tie.Need-put-requires-3
 put-requires-3 c κs = search needs
 
--- src/event.rt:12:1
 same-length : tie.Need-same-length
 same-length c = search needs
 
--- src/event.rt:12:1
 returns-2 : tie.Need-returns-2
 returns-2 c = held-joined _ _ _ _ _ _ (eq-eqb _ _ (c .before .before .before .before .before .before .before .before .before .before .before .before .before .before .before .before .before .before .before .before .before .before .before .before .before .before .before .if1 .left)) (c .before .before .before .before .before .before .before .before .before .before .before .before .before .before .before .before .before .before .before .before .before .before .before .before .before .head .ensures) (c .before .before .before .before .before .before .before .before .before .before .before .before .before .before .before .before .before .before .before .before .put .ensures) (c .before .before .before .before .before .before .before .before .before .before .before .before .before .before .before .before .decimal .ensures) (c .before .before .before .before .before .before .before .before .before .before .before .put2 .ensures) (c .before .before .before .before .before .before .before .decimal2 .ensures) (c .before .before .put3 .ensures)
 

@@ -3,68 +3,49 @@ use borrow.Author.Tests.{eq-eqb, ne-eqb}
 use borrow.Author.Needs.{needs}
 use Rattle.listing.proofs.event.put_origin.Statement.{statement}
 use Rattle.listing.proofs.event.put_origin.Tie as tie
-use Rattle.listing.proofs.event.put_origin.Reads as reads
-use Rattle.listing.proofs.event.put_origin.Lts as lts
-use Rattle.append.proofs.number.decimal.Reads as decimal-reads
-use Rattle.append.proofs.put.Reads as put-reads
 
--- src/event.rt:38:15
 cast-row : tie.Need-cast-row
 cast-row c = search needs
 
--- src/event.rt:39:17
 cast-cycle : tie.Need-cast-cycle
 cast-cycle c = search needs
 
--- src/event.rt:41:30
 slice-aggregate-put : tie.Need-slice-aggregate-put
 slice-aggregate-put c = search needs
 
--- src/event.rt:41:13
 put-requires : tie.Need-put-requires
 put-requires c κs = search needs
 
--- src/event.rt:42:9
 decimal-requires : tie.Need-decimal-requires
 decimal-requires c κs = search needs
 
--- src/event.rt:42:9
 same-length : tie.Need-same-length
 same-length c = search needs
 
--- src/event.rt:42:9
 returns : tie.Need-returns
 returns c = origin-first _ _ (eq-eqb _ _ (c .before .before .before .before .before .before .before .before .before .if1 .taken)) (c .before .before .before .before .before .before .put .ensures) (c .before .before .decimal .ensures)
 
--- src/event.rt:44:26
 slice-aggregate-put-2 : tie.Need-slice-aggregate-put-2
 slice-aggregate-put-2 c = search needs
 
--- src/event.rt:44:9
 put-requires-2 : tie.Need-put-requires-2
 put-requires-2 c κs = search needs
 
--- src/event.rt:45:9
 decimal-requires-2 : tie.Need-decimal-requires-2
 decimal-requires-2 c κs = search needs
 
--- src/event.rt:46:25
 slice-aggregate-put-3 : tie.Need-slice-aggregate-put-3
 slice-aggregate-put-3 c = search needs
 
--- src/event.rt:46:9
 put-requires-3 : tie.Need-put-requires-3
 put-requires-3 c κs = search needs
 
--- src/event.rt:47:5
 decimal-requires-3 : tie.Need-decimal-requires-3
 decimal-requires-3 c κs = search needs
 
--- src/event.rt:35:1
 same-length-2 : tie.Need-same-length-2
 same-length-2 c = search needs
 
--- src/event.rt:35:1
 returns-2 : tie.Need-returns-2
 returns-2 c = origin-later _ _ (ne-eqb _ _ (c .before .before .before .before .before .before .before .before .before .before .before .before .before .before .before .before .before .before .if1 .left)) (c .before .before .before .before .before .before .before .before .before .before .before .before .before .before .before .put2 .ensures) (c .before .before .before .before .before .before .before .before .before .before .before .decimal2 .ensures) (c .before .before .before .before .before .before .put3 .ensures) (c .before .before .decimal3 .ensures)
 

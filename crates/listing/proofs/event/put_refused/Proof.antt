@@ -3,58 +3,40 @@ use borrow.Author.Tests.{eq-eqb, ne-eqb}
 use borrow.Author.Needs.{needs}
 use Rattle.listing.proofs.event.put_refused.Statement.{statement}
 use Rattle.listing.proofs.event.put_refused.Tie as tie
-use Rattle.listing.proofs.event.put_refused.Reads as reads
-use Rattle.listing.proofs.event.put_refused.Lts as lts
-use Rattle.append.proofs.number.decimal.Reads as decimal-reads
-use Rattle.append.proofs.put.Reads as put-reads
-use Rattle.listing.proofs.line.head.Reads as head-reads
-use Rattle.wording.proofs.words.Reads as words-reads
 
--- src/event.rt:80:9
 returns : tie.Need-returns
 returns c = refused-none _ _ _ _ (eq-eqb _ _ (c .if1 .taken))
 
--- src/event.rt:82:9
 head-requires : tie.Need-head-requires
 head-requires c κs = search needs
 
--- src/event.rt:83:25
 slice-aggregate-put : tie.Need-slice-aggregate-put
 slice-aggregate-put c = search needs
 
--- src/event.rt:83:9
 put-requires : tie.Need-put-requires
 put-requires c κs = search needs
 
--- src/event.rt:84:9
 decimal-requires : tie.Need-decimal-requires
 decimal-requires c κs = search needs
 
--- src/event.rt:85:25
 slice-aggregate-put-2 : tie.Need-slice-aggregate-put-2
 slice-aggregate-put-2 c = search needs
 
--- src/event.rt:85:9
 put-requires-2 : tie.Need-put-requires-2
 put-requires-2 c κs = search needs
 
--- src/event.rt:86:9
 words-requires : tie.Need-words-requires
 words-requires c κs = search needs
 
--- src/event.rt:87:17
 slice-aggregate-put-3 : tie.Need-slice-aggregate-put-3
 slice-aggregate-put-3 c = search needs
 
--- src/event.rt:87:5
 put-requires-3 : tie.Need-put-requires-3
 put-requires-3 c κs = search needs
 
--- src/event.rt:76:1
 same-length : tie.Need-same-length
 same-length c = search needs
 
--- src/event.rt:76:1
 returns-2 : tie.Need-returns-2
 returns-2 c = refused-joined _ _ _ _ (ne-eqb _ _ (c .before .before .before .before .before .before .before .before .before .before .before .before .before .before .before .before .before .before .before .before .before .before .before .before .before .before .before .if1 .left)) (c .before .before .before .before .before .before .before .before .before .before .before .before .before .before .before .before .before .before .before .before .before .before .before .before .before .head .ensures) (c .before .before .before .before .before .before .before .before .before .before .before .before .before .before .before .before .before .before .before .before .put .ensures) (c .before .before .before .before .before .before .before .before .before .before .before .before .before .before .before .before .decimal .ensures) (c .before .before .before .before .before .before .before .before .before .before .before .put2 .ensures) (c .before .before .before .before .before .before .before .words .ensures) (c .before .before .put3 .ensures)
 

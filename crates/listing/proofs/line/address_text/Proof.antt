@@ -1,51 +1,37 @@
 use borrow.Author.Needs.{needs}
 use Rattle.listing.proofs.line.address_text.Statement.{statement}
 use Rattle.listing.proofs.line.address_text.Tie as tie
-use Rattle.listing.proofs.line.address_text.Reads as reads
-use Rattle.listing.proofs.line.address_text.Lts as lts
-use Rattle.append.proofs.number.glyph.Reads as glyph-reads
 
--- src/line.rt:55:16
 cast-high : tie.Need-cast-high
 cast-high c = search needs
 
--- src/line.rt:56:15
 cast-low : tie.Need-cast-low
 cast-low c = search needs
 
--- src/line.rt:59:9
 glyph-requires : tie.Need-glyph-requires
 glyph-requires c κs = search needs
 
--- src/line.rt:60:9
 glyph-requires-2 : tie.Need-glyph-requires-2
 glyph-requires-2 c κs = search needs
 
--- src/line.rt:62:9
 glyph-requires-3 : tie.Need-glyph-requires-3
 glyph-requires-3 c κs = search needs
 
--- src/line.rt:63:9
 glyph-requires-4 : tie.Need-glyph-requires-4
 glyph-requires-4 c κs = search needs
 
--- src/line.rt:64:9
 glyph-requires-5 : tie.Need-glyph-requires-5
 glyph-requires-5 c κs = search needs
 
--- src/line.rt:65:9
 glyph-requires-6 : tie.Need-glyph-requires-6
 glyph-requires-6 c κs = search needs
 
--- src/line.rt:70:9
 glyph-requires-7 : tie.Need-glyph-requires-7
 glyph-requires-7 c κs = search needs
 
--- src/line.rt:71:9
 glyph-requires-8 : tie.Need-glyph-requires-8
 glyph-requires-8 c κs = search needs
 
--- src/line.rt:52:1
 returns : tie.Need-returns
 returns c = simp (c .glyph8 .ensures, c .before .glyph7 .ensures, c .before .before .before .glyph6 .ensures, c .before .before .before .before .glyph5 .ensures, c .before .before .before .before .before .glyph4 .ensures, c .before .before .before .before .before .before .glyph3 .ensures, c .before .before .before .before .before .before .before .glyph2 .ensures, c .before .before .before .before .before .before .before .before .glyph .ensures)
 

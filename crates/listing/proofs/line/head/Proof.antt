@@ -2,40 +2,28 @@ use Rattle.listing.proofs.Join.{head-joined}
 use borrow.Author.Needs.{needs}
 use Rattle.listing.proofs.line.head.Statement.{statement}
 use Rattle.listing.proofs.line.head.Tie as tie
-use Rattle.listing.proofs.line.head.Reads as reads
-use Rattle.listing.proofs.line.head.Lts as lts
-use Rattle.append.proofs.number.padded.Reads as padded-reads
-use Rattle.append.proofs.put.Reads as put-reads
 
--- src/line.rt:25:9
 padded-requires : tie.Need-padded-requires
 padded-requires c κs = search needs
 
--- src/line.rt:26:25
 slice-aggregate-put : tie.Need-slice-aggregate-put
 slice-aggregate-put c = search needs
 
--- src/line.rt:26:9
 put-requires : tie.Need-put-requires
 put-requires c κs = search needs
 
--- src/line.rt:27:9
 padded-requires-2 : tie.Need-padded-requires-2
 padded-requires-2 c κs = search needs
 
--- src/line.rt:28:17
 slice-aggregate-put-2 : tie.Need-slice-aggregate-put-2
 slice-aggregate-put-2 c = search needs
 
--- src/line.rt:28:5
 put-requires-2 : tie.Need-put-requires-2
 put-requires-2 c κs = search needs
 
--- src/line.rt:22:1
 same-length : tie.Need-same-length
 same-length c = search needs
 
--- src/line.rt:22:1
 returns : tie.Need-returns
 returns c = head-joined _ _ _ (c .before .before .before .before .before .before .before .before .before .before .before .before .before .before .before .before .padded .ensures) (c .before .before .before .before .before .before .before .before .before .before .before .put .ensures) (c .before .before .before .before .before .before .before .padded2 .ensures) (c .before .before .put2 .ensures)
 

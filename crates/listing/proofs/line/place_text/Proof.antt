@@ -1,47 +1,34 @@
 use borrow.Author.Needs.{needs}
 use Rattle.listing.proofs.line.place_text.Statement.{statement}
 use Rattle.listing.proofs.line.place_text.Tie as tie
-use Rattle.listing.proofs.line.place_text.Reads as reads
-use Rattle.listing.proofs.line.place_text.Lts as lts
-use Rattle.append.proofs.number.glyph.Reads as glyph-reads
 
--- src/line.rt:79:16
 cast-bank : tie.Need-cast-bank
 cast-bank c = search needs
 
--- src/line.rt:80:16
 cast-high : tie.Need-cast-high
 cast-high c = search needs
 
--- src/line.rt:81:15
 cast-low : tie.Need-cast-low
 cast-low c = search needs
 
--- src/line.rt:90:15
 add-glyph : tie.Need-add-glyph
 add-glyph c = search needs
 
--- src/line.rt:90:9
 glyph-requires : tie.Need-glyph-requires
 glyph-requires c κs = search needs
 
--- src/line.rt:92:9
 glyph-requires-2 : tie.Need-glyph-requires-2
 glyph-requires-2 c κs = search needs
 
--- src/line.rt:93:9
 glyph-requires-3 : tie.Need-glyph-requires-3
 glyph-requires-3 c κs = search needs
 
--- src/line.rt:94:9
 glyph-requires-4 : tie.Need-glyph-requires-4
 glyph-requires-4 c κs = search needs
 
--- src/line.rt:95:9
 glyph-requires-5 : tie.Need-glyph-requires-5
 glyph-requires-5 c κs = search needs
 
--- src/line.rt:76:1
 returns : tie.Need-returns
 returns c = simp (c .glyph5 .ensures, c .before .glyph4 .ensures, c .before .before .glyph3 .ensures, c .before .before .before .glyph2 .ensures, c .before .before .before .before .glyph .ensures)
 

@@ -3,27 +3,19 @@ use mathlib.Core.Path.{sym}
 use borrow.Author.Needs.{needs}
 use Rattle.listing.proofs.line.put_own.Statement.{statement}
 use Rattle.listing.proofs.line.put_own.Tie as tie
-use Rattle.listing.proofs.line.put_own.Reads as reads
-use Rattle.listing.proofs.line.put_own.Lts as lts
-use Rattle.append.proofs.put.Reads as put-reads
 
--- src/line.rt:114:29
 slice-aggregate-put : tie.Need-slice-aggregate-put
 slice-aggregate-put c = search needs
 
--- src/line.rt:114:9
 put-requires : tie.Need-put-requires
 put-requires c κs = search needs
 
--- src/line.rt:114:9
 same-length : tie.Need-same-length
 same-length c = search needs
 
--- src/line.rt:114:9
 returns : tie.Need-returns
 returns c = simp (c .before .before .before .before .before .if1 .taken) (c .before .before .put .ensures)
 
--- src/line.rt:110:1
 returns-2 : tie.Need-returns-2
 returns-2 c = simp (c .if1 .left) (sym (puts-none _))
 

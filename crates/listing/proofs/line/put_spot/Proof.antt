@@ -1,35 +1,25 @@
 use Rattle.append.proofs.Laws.{puts-none}
-use mathlib.Core.Path.{sym, ap, _∙_}
+use mathlib.Core.Path.{sym}
 use borrow.Author.Tests.{lt-ltb, le-ltb}
 use borrow.Author.Needs.{needs}
 use Rattle.listing.proofs.line.put_spot.Statement.{statement}
 use Rattle.listing.proofs.line.put_spot.Tie as tie
-use Rattle.listing.proofs.line.put_spot.Reads as reads
-use Rattle.listing.proofs.line.put_spot.Lts as lts
-use Rattle.append.proofs.put.Reads as put-reads
-use Rattle.listing.proofs.line.place_text.Reads as place-text-reads
 
--- src/line.rt:104:17
 place-text-requires : tie.Need-place-text-requires
 place-text-requires c κs = search needs
 
--- src/line.rt:105:29
 slice-aggregate-put : tie.Need-slice-aggregate-put
 slice-aggregate-put c = search needs
 
--- src/line.rt:105:9
 put-requires : tie.Need-put-requires
 put-requires c κs = search needs
 
--- src/line.rt:105:9
 same-length : tie.Need-same-length
 same-length c = search needs
 
--- src/line.rt:105:9
 returns : tie.Need-returns
 returns c = simp (lt-ltb _ _ (c .before .before .before .before .before .before .if1 .taken), sym (c .before .before .before .before .before .place-text .ensures)) (c .before .before .put .ensures)
 
--- src/line.rt:100:1
 returns-2 : tie.Need-returns-2
 returns-2 c = simp (le-ltb _ _ (c .if1 .left)) (sym (puts-none _))
 

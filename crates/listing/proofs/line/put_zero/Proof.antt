@@ -3,27 +3,19 @@ use mathlib.Core.Path.{sym}
 use borrow.Author.Needs.{needs}
 use Rattle.listing.proofs.line.put_zero.Statement.{statement}
 use Rattle.listing.proofs.line.put_zero.Tie as tie
-use Rattle.listing.proofs.line.put_zero.Reads as reads
-use Rattle.listing.proofs.line.put_zero.Lts as lts
-use Rattle.append.proofs.put.Reads as put-reads
 
--- src/line.rt:123:29
 slice-aggregate-put : tie.Need-slice-aggregate-put
 slice-aggregate-put c = search needs
 
--- src/line.rt:123:9
 put-requires : tie.Need-put-requires
 put-requires c κs = search needs
 
--- src/line.rt:123:9
 same-length : tie.Need-same-length
 same-length c = search needs
 
--- src/line.rt:123:9
 returns : tie.Need-returns
 returns c = simp (c .before .before .before .before .before .if1 .taken) (c .before .before .put .ensures)
 
--- src/line.rt:119:1
 returns-2 : tie.Need-returns-2
 returns-2 c = simp (c .if1 .left) (sym (puts-none _))
 

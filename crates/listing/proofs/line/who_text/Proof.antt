@@ -1,39 +1,28 @@
 use borrow.Author.Needs.{needs}
 use Rattle.listing.proofs.line.who_text.Statement.{statement}
 use Rattle.listing.proofs.line.who_text.Tie as tie
-use Rattle.listing.proofs.line.who_text.Reads as reads
-use Rattle.listing.proofs.line.who_text.Lts as lts
-use Rattle.append.proofs.number.glyph.Reads as glyph-reads
 
--- src/line.rt:36:21
 enum-told : tie.Need-enum-told
 enum-told c = search needs
 
--- src/line.rt:37:20
 enum-known-who : tie.Need-enum-known-who
 enum-known-who c = search needs
 
--- src/line.rt:37:58
 glyph-requires : tie.Need-glyph-requires
 glyph-requires c κs = search needs
 
--- src/line.rt:38:21
 enum-known-who-2 : tie.Need-enum-known-who-2
 enum-known-who-2 c = search needs
 
--- src/line.rt:38:65
 glyph-requires-2 : tie.Need-glyph-requires-2
 glyph-requires-2 c κs = search needs
 
--- src/line.rt:32:1
 returns : tie.Need-returns
 returns c = simp (c .enum-told .given .1)
 
--- src/line.rt:32:1
 returns-2 : tie.Need-returns-2
 returns-2 c = simp (c .before .before .who .given .1, c .glyph .ensures)
 
--- src/line.rt:32:1
 returns-3 : tie.Need-returns-3
 returns-3 c = simp (c .before .before .who2 .given .1, c .glyph2 .ensures)
 

@@ -1,50 +1,37 @@
 use borrow.Author.Needs.{needs}
 use Rattle.touch.proofs.reach.own_by.Statement.{statement}
 use Rattle.touch.proofs.reach.own_by.Tie as tie
-use Rattle.touch.proofs.reach.own_by.Reads as reads
-use Rattle.touch.proofs.reach.own_by.Lts as lts
 
--- src/reach.rt:38:26
 enum-told : tie.Need-enum-told
 enum-told c = search needs
 
--- src/reach.rt:39:26
 enum-told-2 : tie.Need-enum-told-2
 enum-told-2 c = search needs
 
--- src/reach.rt:40:24
 enum-told-3 : tie.Need-enum-told-3
 enum-told-3 c = search needs
 
--- src/reach.rt:41:40
 enum-told-4 : tie.Need-enum-told-4
 enum-told-4 c = search needs
 
--- src/reach.rt:41:55
 add-result : tie.Need-add-result
 add-result c = search needs
 
--- src/reach.rt:42:29
 enum-told-5 : tie.Need-enum-told-5
 enum-told-5 c = search needs
 
--- src/reach.rt:34:1
 returns : tie.Need-returns
 returns c = simp (c .enum-told .given .1)
 
--- src/reach.rt:34:1
 returns-2 : tie.Need-returns-2
 returns-2 c = simp (c .enum-told2 .given .1)
 
--- src/reach.rt:34:1
 returns-3 : tie.Need-returns-3
 returns-3 c = simp (c .enum-told3 .given .1)
 
--- src/reach.rt:34:1
 returns-4 : tie.Need-returns-4
 returns-4 c = simp (c .before .before .enum-told4 .given .1)
 
--- src/reach.rt:34:1
 returns-5 : tie.Need-returns-5
 returns-5 c = simp (c .enum-told5 .given .1)
 

@@ -1,39 +1,28 @@
 use borrow.Author.Needs.{needs}
 use Rattle.touch.proofs.reach.own_of.Statement.{statement}
 use Rattle.touch.proofs.reach.own_of.Tie as tie
-use Rattle.touch.proofs.reach.own_of.Reads as reads
-use Rattle.touch.proofs.reach.own_of.Lts as lts
-use Rattle.touch.proofs.reach.own_by.Reads as own-by-reads
 
--- src/reach.rt:50:21
 enum-told : tie.Need-enum-told
 enum-told c = search needs
 
--- src/reach.rt:51:20
 enum-known-who : tie.Need-enum-known-who
 enum-known-who c = search needs
 
--- src/reach.rt:51:33
 own-by-requires : tie.Need-own-by-requires
 own-by-requires c κs = search needs
 
--- src/reach.rt:52:21
 enum-known-who-2 : tie.Need-enum-known-who-2
 enum-known-who-2 c = search needs
 
--- src/reach.rt:52:34
 own-by-requires-2 : tie.Need-own-by-requires-2
 own-by-requires-2 c κs = search needs
 
--- src/reach.rt:46:1
 returns : tie.Need-returns
 returns c = simp (c .enum-told .given .1)
 
--- src/reach.rt:46:1
 returns-2 : tie.Need-returns-2
 returns-2 c = simp (c .before .before .who .given .1, c .own-by .ensures)
 
--- src/reach.rt:46:1
 returns-3 : tie.Need-returns-3
 returns-3 c = simp (c .before .before .who2 .given .1, c .own-by2 .ensures)
 

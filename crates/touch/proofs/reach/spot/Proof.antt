@@ -1,42 +1,31 @@
 use borrow.Author.Needs.{needs}
 use Rattle.touch.proofs.reach.spot.Statement.{statement}
 use Rattle.touch.proofs.reach.spot.Tie as tie
-use Rattle.touch.proofs.reach.spot.Reads as reads
-use Rattle.touch.proofs.reach.spot.Lts as lts
 
--- src/reach.rt:27:27
 enum-told : tie.Need-enum-told
 enum-told c = search needs
 
--- src/reach.rt:28:23
 enum-known-place : tie.Need-enum-known-place
 enum-known-place c = search needs
 
--- src/reach.rt:28:32
 cast-result : tie.Need-cast-result
 cast-result c = search needs
 
--- src/reach.rt:29:23
 enum-known-place-2 : tie.Need-enum-known-place-2
 enum-known-place-2 c = search needs
 
--- src/reach.rt:29:32
 cast-result-2 : tie.Need-cast-result-2
 cast-result-2 c = search needs
 
--- src/reach.rt:29:32
 add-result : tie.Need-add-result
 add-result c = search needs
 
--- src/reach.rt:23:1
 returns : tie.Need-returns
 returns c = simp (c .enum-told .given .1)
 
--- src/reach.rt:23:1
 returns-2 : tie.Need-returns-2
 returns-2 c = simp (c .before .place .given .1)
 
--- src/reach.rt:23:1
 returns-3 : tie.Need-returns-3
 returns-3 c = simp (c .before .place2 .given .1)
 

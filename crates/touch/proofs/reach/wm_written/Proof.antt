@@ -1,40 +1,28 @@
-use mathlib.Core.Path.{_≡_, sym}
+use mathlib.Core.Path.{sym}
 use Rattle.common.proofs.TableLaws.{find-none}
 use Rattle.touch.specs.Reach.{wmTable}
 use borrow.Author.Needs.{needs}
 use Rattle.touch.proofs.reach.wm_written.Statement.{statement}
 use Rattle.touch.proofs.reach.wm_written.Tie as tie
-use Rattle.touch.proofs.reach.wm_written.Reads as reads
-use Rattle.touch.proofs.reach.wm_written.Lts as lts
-use Rattle.common.proofs.u16_split.with_high.Reads as with-high-reads
-use Rattle.common.proofs.u16_split.with_low.Reads as with-low-reads
-use Rattle.registers.proofs.wm_address.bank_from.Reads as bank-from-reads
 
--- src/reach.rt:64:19
 with-low-requires : tie.Need-with-low-requires
 with-low-requires c κs = search needs
 
--- src/reach.rt:68:19
 with-high-requires : tie.Need-with-high-requires
 with-high-requires c κs = search needs
 
--- src/reach.rt:71:17
 bank-from-requires : tie.Need-bank-from-requires
 bank-from-requires c κs = search needs
 
--- src/reach.rt:57:1
 returns : tie.Need-returns
 returns c = simp (c .before .match .keys1, c .with-low .ensures)
 
--- src/reach.rt:57:1
 returns-2 : tie.Need-returns-2
 returns-2 c = simp (c .before .match .keys2, c .with-high .ensures)
 
--- src/reach.rt:57:1
 returns-3 : tie.Need-returns-3
 returns-3 c = simp (c .before .match .keys3, c .bank-from .ensures)
 
--- src/reach.rt:57:1
 returns-4 : tie.Need-returns-4
 returns-4 c = let a = c .before .args in sym (find-none Unit (wmTable (a .w) (a .byte)) (a .addr) (a .w) (c .match .rest))
 

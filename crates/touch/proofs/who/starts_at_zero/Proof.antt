@@ -2,46 +2,34 @@ use Rattle.touch.specs.Who.{startsAtZero}
 use borrow.Author.Needs.{needs}
 use Rattle.touch.proofs.who.starts_at_zero.Statement.{statement}
 use Rattle.touch.proofs.who.starts_at_zero.Tie as tie
-use Rattle.touch.proofs.who.starts_at_zero.Reads as reads
-use Rattle.touch.proofs.who.starts_at_zero.Lts as lts
-use Rattle.touch.proofs.who.starts_from.Reads as starts-from-reads
 
--- src/who.rt:66:27
 enum-told : tie.Need-enum-told
 enum-told c = search needs
 
--- src/who.rt:67:30
 enum-told-2 : tie.Need-enum-told-2
 enum-told-2 c = search needs
 
--- src/who.rt:68:26
 enum-told-3 : tie.Need-enum-told-3
 enum-told-3 c = search needs
 
--- src/who.rt:68:26
 starts-from-requires : tie.Need-starts-from-requires
 starts-from-requires c κs = search needs
 
--- src/who.rt:69:27
 enum-told-4 : tie.Need-enum-told-4
 enum-told-4 c = search needs
 
--- src/who.rt:58:1
 returns : tie.Need-returns
 unfolding startsAtZero
 returns c = simp (c .enum-told .given .1)
 
--- src/who.rt:58:1
 returns-2 : tie.Need-returns-2
 unfolding startsAtZero
 returns-2 c = simp (c .enum-told2 .given .1)
 
--- src/who.rt:58:1
 returns-3 : tie.Need-returns-3
 unfolding startsAtZero
 returns-3 c = simp (c .before .enum-told3 .given .1, c .starts-from .ensures)
 
--- src/who.rt:58:1
 returns-4 : tie.Need-returns-4
 unfolding startsAtZero
 returns-4 c = simp (c .enum-told4 .given .1)

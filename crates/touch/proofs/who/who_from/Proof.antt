@@ -1,22 +1,16 @@
 use borrow.Author.Needs.{needs}
 use Rattle.touch.proofs.who.who_from.Statement.{statement}
 use Rattle.touch.proofs.who.who_from.Tie as tie
-use Rattle.touch.proofs.who.who_from.Reads as reads
-use Rattle.touch.proofs.who.who_from.Lts as lts
 
--- src/who.rt:21:33
 enum-told : tie.Need-enum-told
 enum-told c = search needs
 
--- src/who.rt:22:27
 enum-known-progress : tie.Need-enum-known-progress
 enum-known-progress c = search needs
 
--- src/who.rt:17:1
 returns : tie.Need-returns
 returns c = simp (c .enum-told .given .1)
 
--- src/who.rt:17:1
 returns-2 : tie.Need-returns-2
 returns-2 c = simp (c .before .progress .given .1)
 

@@ -2,51 +2,37 @@ use Rattle.touch.specs.Who.{whoOf}
 use borrow.Author.Needs.{needs}
 use Rattle.touch.proofs.who.who_of.Statement.{statement}
 use Rattle.touch.proofs.who.who_of.Tie as tie
-use Rattle.touch.proofs.who.who_of.Reads as reads
-use Rattle.touch.proofs.who.who_of.Lts as lts
-use Rattle.touch.proofs.who.who_from.Reads as who-from-reads
-use Rattle.transfer.proofs.bits.lowest_bit.Reads as lowest-bit-reads
 
--- src/who.rt:33:27
 enum-told : tie.Need-enum-told
 enum-told c = search needs
 
--- src/who.rt:34:30
 enum-told-2 : tie.Need-enum-told-2
 enum-told-2 c = search needs
 
--- src/who.rt:35:26
 enum-told-3 : tie.Need-enum-told-3
 enum-told-3 c = search needs
 
--- src/who.rt:35:26
 who-from-requires : tie.Need-who-from-requires
 who-from-requires c κs = search needs
 
--- src/who.rt:37:17
 enum-told-4 : tie.Need-enum-told-4
 enum-told-4 c = search needs
 
--- src/who.rt:37:17
 lowest-bit-requires : tie.Need-lowest-bit-requires
 lowest-bit-requires c κs = search needs
 
--- src/who.rt:27:1
 returns : tie.Need-returns
 unfolding whoOf
 returns c = simp (c .enum-told .given .1)
 
--- src/who.rt:27:1
 returns-2 : tie.Need-returns-2
 unfolding whoOf
 returns-2 c = simp (c .enum-told2 .given .1)
 
--- src/who.rt:27:1
 returns-3 : tie.Need-returns-3
 unfolding whoOf
 returns-3 c = simp (c .before .enum-told3 .given .1, c .who-from .ensures)
 
--- src/who.rt:27:1
 returns-4 : tie.Need-returns-4
 unfolding whoOf
 returns-4 c = simp (c .before .enum-told4 .given .1, c .lowest-bit .ensures)

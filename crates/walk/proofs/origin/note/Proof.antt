@@ -5,32 +5,24 @@ use borrow.Author.Tests.{eq-eqb, ne-eqb}
 use borrow.Author.Needs.{needs}
 use Rattle.walk.proofs.origin.note.Statement.{statement}
 use Rattle.walk.proofs.origin.note.Tie as tie
-use Rattle.walk.proofs.origin.note.Reads as reads
-use Rattle.walk.proofs.origin.note.Lts as lts
 
--- src/origin.rt:20:9
 returns : tie.Need-returns
 unfolding noted
 returns c = simp (ne-eqb _ _ (c .if1 .taken))
 
--- src/origin.rt:23:9
 mul-origins : tie.Need-mul-origins
 mul-origins c = search needs
 
--- src/origin.rt:23:9
 slice-write-origins : tie.Need-slice-write-origins
 slice-write-origins c = search needs
 
--- src/origin.rt:16:1
 same-length : tie.Need-same-length
 same-length c = search needs
 
--- src/origin.rt:16:1
 returns-2 : tie.Need-returns-2
 unfolding noted
 returns-2 c = simp (eq-eqb _ _ (c .before .if1 .left))
 
--- src/origin.rt:16:1
 returns-3 : tie.Need-returns-3
 unfolding noted
 returns-3 c = simp (eq-eqb _ _ (c .before .if1 .left)) (sym (set-out _ _ _ (c .if2 .left)))

@@ -3,22 +3,16 @@ use lib.ListN.{List·getD-eq-default}
 use borrow.Author.Needs.{needs}
 use Rattle.walk.proofs.origin.origin_at.Statement.{statement}
 use Rattle.walk.proofs.origin.origin_at.Tie as tie
-use Rattle.walk.proofs.origin.origin_at.Reads as reads
-use Rattle.walk.proofs.origin.origin_at.Lts as lts
 
--- src/origin.rt:32:16
 mul-result : tie.Need-mul-result
 mul-result c = search needs
 
--- src/origin.rt:32:16
 shared-slice-read-result : tie.Need-shared-slice-read-result
 shared-slice-read-result c = search needs
 
--- src/origin.rt:32:9
 returns : tie.Need-returns
 returns c = search needs
 
--- src/origin.rt:28:1
 returns-2 : tie.Need-returns-2
 returns-2 c = sym (List·getD-eq-default (c .before .args .origins .now) 0 (c .if1 .left))
 

@@ -3,32 +3,22 @@ use borrow.Author.Tests.{eq-eqb, ne-eqb}
 use borrow.Author.Needs.{needs}
 use Rattle.walk.proofs.row.put_row.Statement.{statement}
 use Rattle.walk.proofs.row.put_row.Tie as tie
-use Rattle.walk.proofs.row.put_row.Reads as reads
-use Rattle.walk.proofs.row.put_row.Lts as lts
-use Rattle.listing.proofs.event.put_refused.Reads as put-refused-reads
-use Rattle.walk.proofs.row.put_done.Reads as put-done-reads
 
--- src/row.rt:186:9
 put-refused-requires : tie.Need-put-refused-requires
 put-refused-requires c κs = search needs
 
--- src/row.rt:186:9
 same-length : tie.Need-same-length
 same-length c = search needs
 
--- src/row.rt:186:9
 returns : tie.Need-returns
 returns c = row-refused _ _ _ _ _ _ _ (ne-eqb _ _ (c .before .before .before .before .if1 .taken)) (c .before .before .put-refused .ensures)
 
--- src/row.rt:188:5
 put-done-requires : tie.Need-put-done-requires
 put-done-requires c κs = search needs
 
--- src/row.rt:173:1
 same-length-2 : tie.Need-same-length-2
 same-length-2 c = search needs
 
--- src/row.rt:173:1
 returns-2 : tie.Need-returns-2
 returns-2 c = row-done _ _ _ _ _ _ _ (eq-eqb _ _ (c .before .before .before .before .if1 .left)) (c .before .before .put-done .ensures)
 

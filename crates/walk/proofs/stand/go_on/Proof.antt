@@ -2,15 +2,11 @@ use Rattle.walk.specs.Stand.{onward}
 use borrow.Author.Tests.{lt-ltb, le-ltb}
 use Rattle.walk.proofs.stand.go_on.Statement.{statement}
 use Rattle.walk.proofs.stand.go_on.Tie as tie
-use Rattle.walk.proofs.stand.go_on.Reads as reads
-use Rattle.walk.proofs.stand.go_on.Lts as lts
 
--- src/stand.rt:48:9
 returns : tie.Need-returns
 unfolding onward
 returns c = simp (lt-ltb _ _ (c .if1 .taken))
 
--- src/stand.rt:44:1
 returns-2 : tie.Need-returns-2
 unfolding onward
 returns-2 c = simp (le-ltb _ _ (c .if1 .left))

@@ -4,9 +4,6 @@ use native.Mathlib.Omega.{arith}
 use Prim.Native.Nat.{_-_}
 use Rattle.walk.proofs.steps.run_steps.Statement.{statement}
 use Rattle.walk.proofs.steps.run_steps.Tie as tie
-use Rattle.walk.proofs.steps.run_steps.Reads as reads
-use Rattle.walk.proofs.steps.run_steps.Lts as lts
-use Rattle.walk.proofs.steps.step.Reads as step-reads
 
 abbrev Inv-loop : tie.InvT-loop
 Inv-loop low₀ high₀ entries₀ origins₀ rom script out₀ only count w₀ i₀ low high entries origins out w i =
@@ -15,47 +12,36 @@ Inv-loop low₀ high₀ entries₀ origins₀ rom script out₀ only count w₀ 
 abbrev μ-loop : tie.MeasureT-loop
 μ-loop low₀ high₀ entries₀ origins₀ rom script out₀ only count w₀ i₀ low high entries origins out w i = count - i
 
--- src/steps.rt:127:5
 loop-holds : tie.Need-loop-holds Inv-loop μ-loop
 loop-holds c = going-start _ _ _ _ _
 
--- src/steps.rt:128:20
 add-made : tie.Need-add-made Inv-loop μ-loop
 add-made c = omega (arith, (c .loop-test .taken))
 
--- src/steps.rt:129:13
 step-requires : tie.Need-step-requires Inv-loop μ-loop
 step-requires c κs = tt
 
--- src/steps.rt:127:5
 loop-less : tie.Need-loop-less Inv-loop μ-loop
 loop-less c = omega (arith, (c .before .before .before .before .before .before .before .before .before .before .before .before .before .before .before .before .loop-test .taken))
 
--- src/steps.rt:127:5
 loop-again : tie.Need-loop-again Inv-loop μ-loop
 loop-again c = going-on _ _ _ _ _ (c .before .before .before .before .before .before .before .before .before .before .before .before .before .before .before .before .before .loop .inv) (c .before .before .before .before .before .before .before .before .before .before .before .before .before .before .before .before .loop-test .taken) (c .before .before .before .before .before .before .before .before .before .before .step .ensures) (record { low = (c .before .before .before .before .before .before .before .before .before .before .step .kept .1 .0); high = (c .before .before .before .before .before .before .before .before .before .before .step .kept .1 .1 .0); entries = (c .before .before .before .before .before .before .before .before .before .before .step .kept .1 .1 .1 .0); origins = (c .before .before .before .before .before .before .before .before .before .before .step .kept .1 .1 .1 .1 .0); out = (c .before .before .before .before .before .before .before .before .before .before .step .kept .1 .1 .1 .1 .1 .1 .1 .0) })
 
--- src/steps.rt:111:1
 same-length : tie.Need-same-length Inv-loop μ-loop
 same-length c = (c .before .loop .inv .lengths .low)
 
--- src/steps.rt:111:1
 same-length-2 : tie.Need-same-length-2 Inv-loop μ-loop
 same-length-2 c = (c .before .loop .inv .lengths .high)
 
--- src/steps.rt:111:1
 same-length-3 : tie.Need-same-length-3 Inv-loop μ-loop
 same-length-3 c = (c .before .loop .inv .lengths .entries)
 
--- src/steps.rt:111:1
 same-length-4 : tie.Need-same-length-4 Inv-loop μ-loop
 same-length-4 c = (c .before .loop .inv .lengths .origins)
 
--- src/steps.rt:111:1
 same-length-5 : tie.Need-same-length-5 Inv-loop μ-loop
 same-length-5 c = (c .before .loop .inv .lengths .out)
 
--- src/steps.rt:111:1
 returns : tie.Need-returns Inv-loop μ-loop
 returns c = going-end _ _ _ _ _ (c .before .loop .inv) (c .loop-test .left)
 

@@ -3,70 +3,49 @@ use borrow.Author.Tests.{le-leb, lt-leb, eq-eqb, ne-eqb, not-true, not-false}
 use borrow.Author.Needs.{needs}
 use Rattle.walk.proofs.steps.step.Statement.{statement}
 use Rattle.walk.proofs.steps.step.Tie as tie
-use Rattle.walk.proofs.steps.step.Reads as reads
-use Rattle.walk.proofs.steps.step.Lts as lts
-use Rattle.benchfile.proofs.part.part.Reads as part-reads
-use Rattle.benchfile.proofs.row.row_of.Reads as row-of-reads
-use Rattle.walk.proofs.steps.by_row.Reads as by-row-reads
-use Rattle.walk.proofs.steps.has_room.Reads as has-room-reads
 
--- src/steps.rt:97:9
 returns : tie.Need-returns
 returns c = step-none _ _ _ _ (le-leb _ _ (c .if1 .taken))
 
--- src/steps.rt:99:15
 add-row : tie.Need-add-row
 add-row c = search needs
 
--- src/steps.rt:100:36
 mul-part : tie.Need-mul-part
 mul-part c = search needs
 
--- src/steps.rt:100:23
 part-requires : tie.Need-part-requires
 part-requires c κs = search needs
 
--- src/steps.rt:100:9
 row-of-requires : tie.Need-row-of-requires
 row-of-requires c κs = search needs
 
--- src/steps.rt:102:9
 returns-2 : tie.Need-returns-2
 returns-2 c = step-refused _ _ _ _ (lt-leb _ _ (c .before .before .before .before .if1 .left)) (ne-eqb _ _ (c .if2 .taken))
 
--- src/steps.rt:104:9
 has-room-requires : tie.Need-has-room-requires
 has-room-requires c κs = search needs
 
--- src/steps.rt:105:9
 returns-3 : tie.Need-returns-3
 returns-3 c = step-full _ _ _ _ (lt-leb _ _ (c .before .before .before .before .before .before .if1 .left)) (eq-eqb _ _ (c .before .before .if2 .left)) (c .before .has-room .ensures) (not-true _ (c .if3 .taken))
 
--- src/steps.rt:107:5
 by-row-requires : tie.Need-by-row-requires
 by-row-requires c κs = search needs
 
--- src/steps.rt:82:1
 same-length : tie.Need-same-length
 same-length c = search needs
 
--- src/steps.rt:82:1
 same-length-2 : tie.Need-same-length-2
 same-length-2 c = search needs
 
--- src/steps.rt:82:1
 same-length-3 : tie.Need-same-length-3
 same-length-3 c = search needs
 
--- src/steps.rt:82:1
 same-length-4 : tie.Need-same-length-4
 same-length-4 c = search needs
 
--- src/steps.rt:82:1
 same-length-5 : tie.Need-same-length-5
 same-length-5 c = search needs
 
--- src/steps.rt:82:1
 returns-4 : tie.Need-returns-4
 returns-4 c = step-goes _ _ _ _ (lt-leb _ _ (c .before .before .before .before .before .before .before .before .before .before .before .before .before .before .before .before .before .before .before .before .before .before .if1 .left)) (eq-eqb _ _ (c .before .before .before .before .before .before .before .before .before .before .before .before .before .before .before .before .before .before .if2 .left)) (c .before .before .before .before .before .before .before .before .before .before .before .before .before .before .before .before .before .has-room .ensures) (not-false _ (c .before .before .before .before .before .before .before .before .before .before .before .before .before .before .before .before .if3 .left)) (c .before .before .before .before .before .before .before .before .before .before .before .before .before .before .before .before .before .before .before .before .before .part .ensures) (c .before .before .before .before .before .before .before .before .before .before .before .before .before .before .before .before .before .before .before .before .row-of .ensures) (c .before .before .before .before .before .before .before .before .before .before .by-row .ensures)
 

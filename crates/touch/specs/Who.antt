@@ -30,7 +30,7 @@ whoBy phase.Hdma p queue = Hdma (lowest queue)
 unfoldable pub whoOf : Dma → Who
 whoOf d = whoBy (d .state) (d .progress) (d .queue)
 
--- byte 0 of a transfer whose DAS is 0: 65,536 bytes will move (document 01: "a byte count of zero")
+-- byte 0 of a transfer whose DAS is 0: 65,536 bytes move, if nothing rewrites DAS (document 01: "DAS 0 moves 65,536 bytes")
 abbrev pub startsFrom : Io → DmaProgress → Bool
 startsFrom io Nothing = false
 startsFrom io (At ch u) = eqb u 0 && eqb (getD (io .channels) (ch % 8) noChannel .das) 0

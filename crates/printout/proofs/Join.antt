@@ -1,10 +1,8 @@
--- The steps of each function, joined into its definition, and the loop over the rows.
-use Prim.Native.Nat.{ℕ, _+_, _/_, _≤_, _<_}
+-- The steps of each function, joined into its definition.
+use Prim.Native.Nat.{ℕ, _+_, _/_}
 use mathlib.Core.Bool.{Bool, true, false}
 use mathlib.Core.List.{List}
-use mathlib.Core.Path.{_≡_, refl, _∙_, ap}
-use native.Mathlib.Numerals.{add-one}
-use native.Mathlib.Omega.{arith}
+use mathlib.Core.Path.{_≡_}
 use lib.Dec.{leb, eqb}
 use lib.ListN.{length}
 use Rattle.bench.specs.Calls.{Desk, freshCall}
@@ -20,7 +18,7 @@ use Rattle.append.specs.Sheet.{Sheet, sheet, puts}
 use Rattle.lines.specs.Line.{lineText, refusedText}
 use Rattle.lines.specs.Fill.{filled}
 use Rattle.printout.specs.Row.{Shown, rowShown}
-use Rattle.printout.specs.Rows.{Standing, after, stepped, steps}
+use Rattle.printout.specs.Rows.{Standing, after, stepped}
 use Rattle.bench.specs.Refusal.{alsoOf}
 use Rattle.printout.specs.Start.{Starting, madeFor, refusalOf, startRun}
 
@@ -48,40 +46,6 @@ module _ (rom script : List ℕ) (s : Standing) where
           → after s o ≡ stepped rom script s
       unfolding stepped
       step-goes e p q = cc
-
--- the lent slices keep their lengths
-pub record SameLengths (s t : Standing) : Type 0 where
-  pub low : length (t .desk .ram .low) ≡ length (s .desk .ram .low)
-  pub high : length (t .desk .ram .high) ≡ length (s .desk .ram .high)
-  pub entries : length (t .desk .entries) ≡ length (s .desk .entries)
-  pub out : length (t .out .text) ≡ length (s .out .text)
-
--- i of n steps are made
-pub record Going (rom script : List ℕ) (n : ℕ) (s₀ s : Standing) (i : ℕ) : Type 0 where
-  pub under : i ≤ n
-  pub is : s ≡ steps rom script i s₀
-  pub lengths : SameLengths s₀ s
-
-module _ (rom script : List ℕ) (n : ℕ) (s₀ : Standing) where
-  pub going-start : Going rom script n s₀ s₀ 0
-  unfolding steps
-  going-start = record { under = omega arith; is = refl; lengths = record { low = refl; high = refl; entries = refl; out = refl } }
-
-  pub going-on : {s t : Standing} {i : ℕ} → Going rom script n s₀ s i → i < n → t ≡ stepped rom script s → SameLengths s t → Going rom script n s₀ t (i + 1)
-  unfolding steps
-  going-on {s} {t} {i} g h e l = record {
-    under = omega arith;
-    is = rw (add-one i) (e ∙ ap (stepped rom script) (g .is));
-    lengths = record {
-      low = l .low ∙ g .lengths .low;
-      high = l .high ∙ g .lengths .high;
-      entries = l .entries ∙ g .lengths .entries;
-      out = l .out ∙ g .lengths .out;
-    };
-  }
-
-  pub going-end : {s : Standing} {i : ℕ} → Going rom script n s₀ s i → n ≤ i → s ≡ steps rom script n s₀
-  going-end {s} {i} g h = let e : i ≡ n = omega (arith, g .under) in g .is ∙ ap (λ (k : ℕ). steps rom script k s₀) e
 
 -- a file before its first row
 module _ (f low high out : List ℕ) {settings : List ℕ} {bits broken n : ℕ} {made : Answer} (p : settings ≡ sectionOf f 0) (q : bits ≡ field 2 settings 0)

@@ -1,17 +1,14 @@
--- The steps of a row, joined into its definition, and the two loops.
-use Prim.Native.Nat.{ℕ, _+_, _≤_, _<_}
+-- The steps of a row, joined into its definition, and what its two loops are lent.
+use Prim.Native.Nat.{ℕ}
 use mathlib.Core.Bool.{Bool, true, false}
-use mathlib.Core.List.{List}
-use mathlib.Core.Path.{_≡_, refl, _∙_, ap}
-use native.Mathlib.Numerals.{add-one}
-use native.Mathlib.Omega.{arith}
+use mathlib.Core.List.{List, [], _∷_}
+use mathlib.Core.Path.{_≡_}
 use lib.Dec.{eqb}
-use lib.ListN.{length}
 use Rattle.bench.specs.Calls.{Desk, CycleOut, cycleCall, ReadOut, readCall, WriteOut, writeCall, PlainOut, padCall, plugCall, answerCall, backCall}
 use Rattle.benchfile.specs.declared.row.Row.{Row}
 use Rattle.benchfile.specs.declared.row.Row.the-variants.{Cycles, Read, Write, Pad, Plug, Answer, Back, Broken}
 use Rattle.script.specs.Row.{readRan, writeRan, plainRan, rowRun}
-use Rattle.script.specs.Run.{Running, start, firstOf, firstFlag, plusOne, cycleStep, cyclesRun, backStep, backsRun}
+use Rattle.script.specs.Run.{Running, plusOne, cycleStep, cyclesRun, backStep, backsRun}
 
 module _ (rom : List ℕ) (event : ℕ) (line timer : Bool) (s : Running) where
   pub cycle-stopped : eqb (s .number) 0 ≡ false → s ≡ cycleStep rom event line timer s
@@ -33,49 +30,14 @@ module _ (s : Running) where
   unfolding backStep
   back-goes z p q = cc
 
--- the three lent slices keep their lengths
-pub record SameLengths (d e : Desk) : Type 0 where
-  pub low : length (e .ram .low) ≡ length (d .ram .low)
-  pub high : length (e .ram .high) ≡ length (d .ram .high)
-  pub entries : length (e .entries) ≡ length (d .entries)
+-- the lent slices of a desk, which keep their lengths
+abbrev pub slicesOf : {A : Type 0} → (A → Desk) → List (A → List ℕ)
+slicesOf d = (λ s. d s .ram .low) ∷ (λ s. d s .ram .high) ∷ (λ s. d s .entries) ∷ []
 
--- a loop of calls of which i are made: f i is where it stands
-pub record Going (f : ℕ → Running) (n : ℕ) (d : Desk) (s : Running) (i : ℕ) : Type 0 where
-  pub under : i ≤ n
-  pub is : s ≡ f i
-  pub lengths : SameLengths d (s .desk)
-
-module _ (f : ℕ → Running) (n : ℕ) (d : Desk) where
-  pub going-start : {s : Running} → s ≡ start d → f 0 ≡ start d → Going f n d s 0
-  going-start e z = record { under = omega arith; is = cc; lengths = record { low = ap (λ (x : Running). length (x .desk .ram .low)) e; high = ap (λ (x : Running). length (x .desk .ram .high)) e; entries = ap (λ (x : Running). length (x .desk .entries)) e } }
-
-  pub going-on : {s t : Running} {i : ℕ} → Going f n d s i → i < n → t ≡ f (i + 1) → SameLengths (s .desk) (t .desk) → Going f n d t (i + 1)
-  going-on g h e l = record {
-    under = omega (arith, g .under);
-    is = e;
-    lengths = record { low = l .low ∙ g .lengths .low; high = l .high ∙ g .lengths .high; entries = l .entries ∙ g .lengths .entries };
-  }
-
-  pub going-end : {s : Running} {i : ℕ} → Going f n d s i → n ≤ i → s ≡ f n
-  going-end {s} {i} g h = let e : i ≡ n = omega (arith, g .under) in g .is ∙ ap f e
-
--- one cycle and one back step more
-pub cycles-more : (rom : List ℕ) (event : ℕ) (line timer : Bool) (d : Desk) {s t : Running} (i : ℕ) {e : ℕ} {l u : Bool} → s ≡ cyclesRun rom event line timer i d
-    → e ≡ firstOf i event → l ≡ firstFlag i line → u ≡ firstFlag i timer → t ≡ cycleStep rom e l u s → t ≡ cyclesRun rom event line timer (i + 1) d
-unfolding cyclesRun
-cycles-more rom event line timer d i p a b c q = rw (add-one i) (cc (p, a, b, c, q))
-
-pub backs-more : (d : Desk) {s t : Running} (i : ℕ) → s ≡ backsRun i d → t ≡ backStep s → t ≡ backsRun (i + 1) d
-unfolding backsRun
-backs-more d i p q = rw (add-one i) (cc (p, q))
-
-pub cycles-none : (rom : List ℕ) (event : ℕ) (line timer : Bool) (d : Desk) → cyclesRun rom event line timer 0 d ≡ start d
-unfolding cyclesRun
-cycles-none rom event line timer d = refl
-
-pub backs-none : (d : Desk) → backsRun 0 d ≡ start d
-unfolding backsRun
-backs-none d = refl
+-- a cycle whose event and flags are known by equations
+pub cycle-with : (rom : List ℕ) (s : Running) {t : Running} {e event : ℕ} {l line u timer : Bool} → e ≡ event → l ≡ line → u ≡ timer
+    → t ≡ cycleStep rom e l u s → t ≡ cycleStep rom event line timer s
+cycle-with rom s a b c q = cc
 
 -- one law for each kind of row
 module _ (rom : List ℕ) (d : Desk) where

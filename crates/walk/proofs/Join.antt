@@ -1,10 +1,8 @@
--- The calls of a step, joined into its definition, and the loop over the steps.
-use Prim.Native.Nat.{ℕ, _+_, _/_, _%_, _≤_, _<_}
+-- The calls of a step, joined into its definition.
+use Prim.Native.Nat.{ℕ, _+_, _/_, _%_}
 use mathlib.Core.Bool.{Bool, true, false}
 use mathlib.Core.List.{List, []}
-use mathlib.Core.Path.{_≡_, refl, sym, ap, _∙_}
-use native.Mathlib.Numerals.{add-one}
-use native.Mathlib.Omega.{arith}
+use mathlib.Core.Path.{_≡_, sym, ap, _∙_}
 use lib.Dec.{leb, eqb}
 use lib.ListN.{length, getD}
 use Rattle.append.specs.Sheet.{Sheet, puts}
@@ -25,7 +23,7 @@ use Rattle.touch.specs.declared.who.Who.the-variants.{Cpu}
 use Rattle.walk.specs.Origin.{originOf, noted}
 use Rattle.walk.specs.Row.{access, doneText, rowText}
 use Rattle.walk.specs.Stand.{stand, counted, onward}
-use Rattle.walk.specs.Steps.{stepped, steps}
+use Rattle.walk.specs.Steps.{stepped}
 use Rattle.walk.specs.Walk.{Walking, clockOf, cycleWalked, backWalked, rowWalked, byRow}
 use Rattle.walk.specs.declared.stand.Stand.{Stand}
 
@@ -121,39 +119,3 @@ module _ (rom script : List ℕ) (only : ℕ) (w : Walking) where
           → x ≡ byRow rom only (w .stand .next + 1) says w → x ≡ stepped rom script only w
       unfolding stepped
       step-goes e p q r = cc
-
--- the lent slices keep their lengths
-pub record SameLengths (s t : Walking) : Type 0 where
-  pub low : length (t .desk .ram .low) ≡ length (s .desk .ram .low)
-  pub high : length (t .desk .ram .high) ≡ length (s .desk .ram .high)
-  pub entries : length (t .desk .entries) ≡ length (s .desk .entries)
-  pub origins : length (t .origins) ≡ length (s .origins)
-  pub out : length (t .sheet .text) ≡ length (s .sheet .text)
-
--- i of n steps are made
-pub record Going (rom script : List ℕ) (only n : ℕ) (s₀ s : Walking) (i : ℕ) : Type 0 where
-  pub under : i ≤ n
-  pub is : s ≡ steps rom script only i s₀
-  pub lengths : SameLengths s₀ s
-
-module _ (rom script : List ℕ) (only n : ℕ) (s₀ : Walking) where
-  pub going-start : Going rom script only n s₀ s₀ 0
-  unfolding steps
-  going-start = record { under = omega arith; is = refl; lengths = record { low = refl; high = refl; entries = refl; origins = refl; out = refl } }
-
-  pub going-on : {s t : Walking} {i : ℕ} → Going rom script only n s₀ s i → i < n → t ≡ stepped rom script only s → SameLengths s t → Going rom script only n s₀ t (i + 1)
-  unfolding steps
-  going-on {s} {t} {i} g h e l = record {
-    under = omega arith;
-    is = rw (add-one i) (e ∙ ap (stepped rom script only) (g .is));
-    lengths = record {
-      low = l .low ∙ g .lengths .low;
-      high = l .high ∙ g .lengths .high;
-      entries = l .entries ∙ g .lengths .entries;
-      origins = l .origins ∙ g .lengths .origins;
-      out = l .out ∙ g .lengths .out;
-    };
-  }
-
-  pub going-end : {s : Walking} {i : ℕ} → Going rom script only n s₀ s i → n ≤ i → s ≡ steps rom script only n s₀
-  going-end {s} {i} g h = let e : i ≡ n = omega (arith, g .under) in g .is ∙ ap (λ (k : ℕ). steps rom script only k s₀) e

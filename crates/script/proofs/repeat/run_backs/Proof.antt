@@ -1,5 +1,7 @@
-use Rattle.script.proofs.Join.{Going, going-start, going-on, going-end, backs-more, backs-none}
-use Rattle.script.specs.Run.{ran, backsRun}
+use Rattle.common.proofs.AllLaws.{_also_}
+use Rattle.script.proofs.Loop.{Going, going-start, going-on, going-end}
+use Rattle.script.proofs.Join.{slicesOf}
+use Rattle.script.specs.Run.{Running, ran, start, backStep, backsRun}
 use Rattle.bench.specs.Calls.{desk}
 use native.Mathlib.Omega.{arith}
 use mathlib.Core.Path.{refl}
@@ -10,13 +12,14 @@ use Rattle.script.proofs.repeat.run_backs.Tie as tie
 abbrev Inv-loop : tie.InvT-loop
 Inv-loop low₀ high₀ entries₀ count s₀ i₀ low high entries s i =
     let d = desk (s₀ .bench) low₀ high₀ entries₀ in
-    Going (λ k. backsRun k d) count d (ran s low high entries) i
+    Going (slicesOf (λ (x : Running). x .desk)) (λ k. backsRun k d) count (start d) (ran s low high entries) i
 
 abbrev μ-loop : tie.MeasureT-loop
 μ-loop low₀ high₀ entries₀ count s₀ i₀ low high entries s i = count - i
 
 loop-holds : tie.Need-loop-holds Inv-loop μ-loop
-loop-holds c = going-start _ _ _ refl (backs-none _)
+unfolding backsRun
+loop-holds c = going-start refl
 
 back-step-requires : tie.Need-back-step-requires Inv-loop μ-loop
 back-step-requires c κs = tt
@@ -28,19 +31,20 @@ loop-less : tie.Need-loop-less Inv-loop μ-loop
 loop-less c = omega arith
 
 loop-again : tie.Need-loop-again Inv-loop μ-loop
-loop-again c = going-on _ _ _ (c .before .before .before .before .before .before .before .before .before .before .before .loop .inv) (c .before .before .before .before .before .before .before .before .before .before .loop-test .taken) (backs-more _ _ ((c .before .before .before .before .before .before .before .before .before .before .before .loop .inv .is)) (c .before .before .before .before .before .before .back-step .ensures)) (record { low = (c .before .before .before .before .before .before .back-step .kept .1 .0); high = (c .before .before .before .before .before .before .back-step .kept .1 .1 .0); entries = (c .before .before .before .before .before .before .back-step .kept .1 .1 .1 .0) })
+unfolding backsRun
+loop-again c = going-on (c .before .before .before .before .before .before .before .before .before .before .before .loop .inv) (c .before .before .before .before .before .before .before .before .before .before .loop-test .taken) backStep (c .before .before .before .before .before .before .back-step .ensures) refl ((c .before .before .before .before .before .before .back-step .kept .1 .0) also (c .before .before .before .before .before .before .back-step .kept .1 .1 .0) also (c .before .before .before .before .before .before .back-step .kept .1 .1 .1 .0) also tt)
 
 same-length : tie.Need-same-length Inv-loop μ-loop
-same-length c = (c .before .loop .inv .lengths .low)
+same-length c = (c .before .loop .inv .lengths .0)
 
 same-length-2 : tie.Need-same-length-2 Inv-loop μ-loop
-same-length-2 c = (c .before .loop .inv .lengths .high)
+same-length-2 c = (c .before .loop .inv .lengths .1 .0)
 
 same-length-3 : tie.Need-same-length-3 Inv-loop μ-loop
-same-length-3 c = (c .before .loop .inv .lengths .entries)
+same-length-3 c = (c .before .loop .inv .lengths .1 .1 .0)
 
 returns : tie.Need-returns Inv-loop μ-loop
-returns c = going-end _ _ _ (c .before .loop .inv) (c .loop-test .left)
+returns c = going-end (c .before .loop .inv) (c .loop-test .left)
 
 pub run-backs-spec : {M : Type 1} → statement M
 run-backs-spec =

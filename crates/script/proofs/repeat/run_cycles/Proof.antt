@@ -1,5 +1,7 @@
-use Rattle.script.proofs.Join.{Going, going-start, going-on, going-end, cycles-more, cycles-none}
-use Rattle.script.specs.Run.{ran, cyclesRun}
+use Rattle.common.proofs.AllLaws.{_also_}
+use Rattle.script.proofs.Loop.{Going, going-start, going-on, going-end}
+use Rattle.script.proofs.Join.{slicesOf, cycle-with}
+use Rattle.script.specs.Run.{Running, ran, start, cycleStep, cyclesRun}
 use Rattle.bench.specs.Calls.{desk}
 use native.Mathlib.Omega.{arith}
 use mathlib.Core.Path.{refl}
@@ -10,13 +12,14 @@ use Rattle.script.proofs.repeat.run_cycles.Tie as tie
 abbrev Inv-loop : tie.InvT-loop
 Inv-loop low₀ high₀ entries₀ rom count event line timer s₀ i₀ low high entries s i =
     let d = desk (s₀ .bench) low₀ high₀ entries₀ in
-    Going (λ k. cyclesRun rom event line timer k d) count d (ran s low high entries) i
+    Going (slicesOf (λ (x : Running). x .desk)) (λ k. cyclesRun rom event line timer k d) count (start d) (ran s low high entries) i
 
 abbrev μ-loop : tie.MeasureT-loop
 μ-loop low₀ high₀ entries₀ rom count event line timer s₀ i₀ low high entries s i = count - i
 
 loop-holds : tie.Need-loop-holds Inv-loop μ-loop
-loop-holds c = going-start _ _ _ refl (cycles-none _ _ _ _ _)
+unfolding cyclesRun
+loop-holds c = going-start refl
 
 first-of-requires : tie.Need-first-of-requires Inv-loop μ-loop
 first-of-requires c κs = tt
@@ -37,19 +40,20 @@ loop-less : tie.Need-loop-less Inv-loop μ-loop
 loop-less c = omega arith
 
 loop-again : tie.Need-loop-again Inv-loop μ-loop
-loop-again c = going-on _ _ _ (c .before .before .before .before .before .before .before .before .before .before .before .before .before .before .loop .inv) (c .before .before .before .before .before .before .before .before .before .before .before .before .before .loop-test .taken) (cycles-more _ _ _ _ _ _ ((c .before .before .before .before .before .before .before .before .before .before .before .before .before .before .loop .inv .is)) (c .before .before .before .before .before .before .before .before .before .before .before .before .first-of .ensures) (c .before .before .before .before .before .before .before .before .before .before .before .first-flag .ensures) (c .before .before .before .before .before .before .before .before .before .before .first-flag2 .ensures) (c .before .before .before .before .before .before .cycle-step .ensures)) (record { low = (c .before .before .before .before .before .before .cycle-step .kept .1 .0); high = (c .before .before .before .before .before .before .cycle-step .kept .1 .1 .0); entries = (c .before .before .before .before .before .before .cycle-step .kept .1 .1 .1 .0) })
+unfolding cyclesRun
+loop-again c = going-on (c .before .before .before .before .before .before .before .before .before .before .before .before .before .before .loop .inv) (c .before .before .before .before .before .before .before .before .before .before .before .before .before .loop-test .taken) (cycleStep _ _ _ _) (cycle-with _ _ (c .before .before .before .before .before .before .before .before .before .before .before .before .first-of .ensures) (c .before .before .before .before .before .before .before .before .before .before .before .first-flag .ensures) (c .before .before .before .before .before .before .before .before .before .before .first-flag2 .ensures) (c .before .before .before .before .before .before .cycle-step .ensures)) refl ((c .before .before .before .before .before .before .cycle-step .kept .1 .0) also (c .before .before .before .before .before .before .cycle-step .kept .1 .1 .0) also (c .before .before .before .before .before .before .cycle-step .kept .1 .1 .1 .0) also tt)
 
 same-length : tie.Need-same-length Inv-loop μ-loop
-same-length c = (c .before .loop .inv .lengths .low)
+same-length c = (c .before .loop .inv .lengths .0)
 
 same-length-2 : tie.Need-same-length-2 Inv-loop μ-loop
-same-length-2 c = (c .before .loop .inv .lengths .high)
+same-length-2 c = (c .before .loop .inv .lengths .1 .0)
 
 same-length-3 : tie.Need-same-length-3 Inv-loop μ-loop
-same-length-3 c = (c .before .loop .inv .lengths .entries)
+same-length-3 c = (c .before .loop .inv .lengths .1 .1 .0)
 
 returns : tie.Need-returns Inv-loop μ-loop
-returns c = going-end _ _ _ (c .before .loop .inv) (c .loop-test .left)
+returns c = going-end (c .before .loop .inv) (c .loop-test .left)
 
 pub run-cycles-spec : {M : Type 1} → statement M
 run-cycles-spec =

@@ -1,5 +1,10 @@
-use Rattle.walk.proofs.Join.{Going, going-start, going-on, going-end}
-use Rattle.walk.specs.Walk.{walking}
+use Rattle.common.proofs.AllLaws.{_also_}
+use Rattle.script.proofs.Loop.{Going, going-start, going-on, going-end}
+use Rattle.script.proofs.Join.{slicesOf}
+use Rattle.walk.specs.Walk.{Walking, walking}
+use Rattle.walk.specs.Steps.{stepped, steps}
+use mathlib.Core.List.{_∷_}
+use mathlib.Core.Path.{refl}
 use native.Mathlib.Omega.{arith}
 use Prim.Native.Nat.{_-_}
 use Rattle.walk.proofs.steps.run_steps.Statement.{statement}
@@ -7,13 +12,16 @@ use Rattle.walk.proofs.steps.run_steps.Tie as tie
 
 abbrev Inv-loop : tie.InvT-loop
 Inv-loop low₀ high₀ entries₀ origins₀ rom script out₀ only count w₀ i₀ low high entries origins out w i =
-    Going rom script only count (walking w₀ low₀ high₀ entries₀ origins₀ out₀) (walking w low high entries origins out) i
+    let first = walking w₀ low₀ high₀ entries₀ origins₀ out₀ in
+    Going ((λ (x : Walking). x .sheet .text) ∷ (λ (x : Walking). x .origins) ∷ slicesOf (λ (x : Walking). x .desk)) (λ k. steps rom script only k first) count first
+    (walking w low high entries origins out) i
 
 abbrev μ-loop : tie.MeasureT-loop
 μ-loop low₀ high₀ entries₀ origins₀ rom script out₀ only count w₀ i₀ low high entries origins out w i = count - i
 
 loop-holds : tie.Need-loop-holds Inv-loop μ-loop
-loop-holds c = going-start _ _ _ _ _
+unfolding steps
+loop-holds c = going-start refl
 
 add-made : tie.Need-add-made Inv-loop μ-loop
 add-made c = omega (arith, (c .loop-test .taken))
@@ -25,25 +33,26 @@ loop-less : tie.Need-loop-less Inv-loop μ-loop
 loop-less c = omega (arith, (c .before .before .before .before .before .before .before .before .before .before .before .before .before .before .before .before .loop-test .taken))
 
 loop-again : tie.Need-loop-again Inv-loop μ-loop
-loop-again c = going-on _ _ _ _ _ (c .before .before .before .before .before .before .before .before .before .before .before .before .before .before .before .before .before .loop .inv) (c .before .before .before .before .before .before .before .before .before .before .before .before .before .before .before .before .loop-test .taken) (c .before .before .before .before .before .before .before .before .before .before .step .ensures) (record { low = (c .before .before .before .before .before .before .before .before .before .before .step .kept .1 .0); high = (c .before .before .before .before .before .before .before .before .before .before .step .kept .1 .1 .0); entries = (c .before .before .before .before .before .before .before .before .before .before .step .kept .1 .1 .1 .0); origins = (c .before .before .before .before .before .before .before .before .before .before .step .kept .1 .1 .1 .1 .0); out = (c .before .before .before .before .before .before .before .before .before .before .step .kept .1 .1 .1 .1 .1 .1 .1 .0) })
+unfolding steps
+loop-again c = going-on (c .before .before .before .before .before .before .before .before .before .before .before .before .before .before .before .before .before .loop .inv) (c .before .before .before .before .before .before .before .before .before .before .before .before .before .before .before .before .loop-test .taken) (stepped _ _ _) (c .before .before .before .before .before .before .before .before .before .before .step .ensures) refl ((c .before .before .before .before .before .before .before .before .before .before .step .kept .1 .1 .1 .1 .1 .1 .1 .0) also (c .before .before .before .before .before .before .before .before .before .before .step .kept .1 .1 .1 .1 .0) also (c .before .before .before .before .before .before .before .before .before .before .step .kept .1 .0) also (c .before .before .before .before .before .before .before .before .before .before .step .kept .1 .1 .0) also (c .before .before .before .before .before .before .before .before .before .before .step .kept .1 .1 .1 .0) also tt)
 
 same-length : tie.Need-same-length Inv-loop μ-loop
-same-length c = (c .before .loop .inv .lengths .low)
+same-length c = (c .before .loop .inv .lengths .1 .1 .0)
 
 same-length-2 : tie.Need-same-length-2 Inv-loop μ-loop
-same-length-2 c = (c .before .loop .inv .lengths .high)
+same-length-2 c = (c .before .loop .inv .lengths .1 .1 .1 .0)
 
 same-length-3 : tie.Need-same-length-3 Inv-loop μ-loop
-same-length-3 c = (c .before .loop .inv .lengths .entries)
+same-length-3 c = (c .before .loop .inv .lengths .1 .1 .1 .1 .0)
 
 same-length-4 : tie.Need-same-length-4 Inv-loop μ-loop
-same-length-4 c = (c .before .loop .inv .lengths .origins)
+same-length-4 c = (c .before .loop .inv .lengths .1 .0)
 
 same-length-5 : tie.Need-same-length-5 Inv-loop μ-loop
-same-length-5 c = (c .before .loop .inv .lengths .out)
+same-length-5 c = (c .before .loop .inv .lengths .0)
 
 returns : tie.Need-returns Inv-loop μ-loop
-returns c = going-end _ _ _ _ _ (c .before .loop .inv) (c .loop-test .left)
+returns c = going-end (c .before .loop .inv) (c .loop-test .left)
 
 pub run-steps-spec : {M : Type 1} → statement M
 run-steps-spec =

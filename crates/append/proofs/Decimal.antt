@@ -10,16 +10,11 @@ use lib.Dec.{leb, ltb}
 use lib.ListN.{length, take, replicate, length-append}
 use lib.Seq.{length-take-le}
 use borrow.Author.Tests.{lt-ltb, le-ltb, leb-true, leb-false}
-use Rattle.common.specs.Pick.{pick}
+use Rattle.common.proofs.TableLaws.{pick-elim}
 use Rattle.io.specs.Digits.{digits, glyph, Fewest}
 use Rattle.append.specs.Sheet.{Sheet, puts}
 use Rattle.append.specs.Number.{decimalIn, decimal, padded}
 use Rattle.append.proofs.Laws.{then}
-
--- either of two short texts
-pub either : (k : ℕ) (t : Bool) (a b : List ℕ) → length a ≤ k → length b ≤ k → length (pick t a b) ≤ k
-either k true a b p q = p
-either k false a b p q = q
 
 -- k digits are at most k bytes
 most-in : (k n : ℕ) → length (decimalIn k n) ≤ k
@@ -27,7 +22,7 @@ unfolding decimalIn
 most-in zero n = omega arith
 most-in (suc k) n =
     let h = most-in k (n / 10) in
-    either (suc k) (ltb n 10) _ _ (omega arith) (simp length-append (omega arith))
+    pick-elim (λ (l : List ℕ). length l ≤ suc k) (ltb n 10) (omega arith) (simp length-append (omega arith))
 
 pub most : (n : ℕ) → length (decimal n) ≤ 20
 unfolding decimal
@@ -43,7 +38,7 @@ short-in (suc f) zero n h =
 short-in (suc f) (suc k) n h =
     let p : n < 10 * 10 ^ suc k = rw pow-succ' at h in
     let q = short-in f k (n / 10) (omega arith) in
-    either (suc (suc k)) (ltb n 10) _ _ (omega arith) (simp length-append (omega arith))
+    pick-elim (λ (l : List ℕ). length l ≤ suc (suc k)) (ltb n 10) (omega arith) (simp length-append (omega arith))
 
 pub short : (k n : ℕ) → n < 10 ^ suc k → length (decimal n) ≤ suc k
 unfolding decimal

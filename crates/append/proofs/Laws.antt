@@ -1,6 +1,6 @@
 -- Bytes put one after the other, and what then stands in the buffer.
 use Prim.Native.Nat.{ℕ, suc, _+_, _-_, _≤_, _<_}
-use mathlib.Core.List.{List, [], _∷_, _++_, append-assoc, append-nil}
+use mathlib.Core.List.{List, [], _∷_, _++_, append-assoc, append-nil, foldl-append}
 use mathlib.Core.Path.{_≡_, refl, sym, ap, subst, _∙_}
 use native.Mathlib.Numerals.{add-one}
 use native.Mathlib.Omega.{arith}
@@ -10,12 +10,6 @@ use borrow.Author.Tests.{lt-ltb, le-ltb}
 use Rattle.append.specs.Sheet.{Sheet, sheet, push, puts, shownOf}
 use Rattle.append.specs.Number.{hexByte, hexes}
 use Rattle.append.specs.Texts.{each}
-
--- two lists one after the other
-pub puts-append : (s : Sheet) (a b : List ℕ) → puts s (a ++ b) ≡ puts (puts s a) b
-unfolding puts
-puts-append s [] b = refl
-puts-append s (c ∷ a) b = puts-append (push s c) a b
 
 -- no byte
 pub puts-none : (s : Sheet) → puts s [] ≡ s
@@ -29,7 +23,8 @@ puts-one s c = refl
 
 -- two texts put, one after the other
 pub then : (s : Sheet) {t u : Sheet} (a b : List ℕ) → t ≡ puts s a → u ≡ puts t b → u ≡ puts s (a ++ b)
-then s a b p q = q ∙ ap (λ (x : Sheet). puts x b) p ∙ sym (puts-append s a b)
+unfolding puts
+then s a b p q = q ∙ ap (λ (x : Sheet). puts x b) p ∙ sym (foldl-append push s a b)
 
 -- a byte put last
 pub last : (s : Sheet) {t : Sheet} (c : ℕ) → t ≡ push s c → t ≡ puts s (c ∷ [])
@@ -37,16 +32,8 @@ last s c p = p ∙ sym (puts-one s c)
 
 -- what is left of a text once its first part is put
 pub first : (s : Sheet) {t : Sheet} (a b : List ℕ) → t ≡ puts s a → puts s (a ++ b) ≡ puts t b
-first s a b e = puts-append s a b ∙ ap (λ (x : Sheet). puts x b) (sym e)
-
--- a byte of a list, and the rest
-pub puts-next : (s : Sheet) {t : Sheet} (l : List ℕ) (i : ℕ) → i < length l → t ≡ push s (getD l i 0) → puts s (drop i l) ≡ puts t (drop (i + 1) l)
 unfolding puts
-puts-next s {t} l i h e = rw (add-one, drop-cons l i 0 h, e)
-
-pub puts-end : (s : Sheet) (l : List ℕ) (i : ℕ) → length l ≤ i → puts s (drop i l) ≡ s
-unfolding puts
-puts-end s l i h = rw (drop-of-length-le l h)
+first s a b e = foldl-append push s a b ∙ ap (λ (x : Sheet). puts x b) (sym e)
 
 -- the same byte from i up to n
 pub again-next : (s : Sheet) {t : Sheet} (c n i : ℕ) → i < n → t ≡ push s c → puts s (replicate (n - i) c) ≡ puts t (replicate (n - (i + 1)) c)

@@ -1,6 +1,6 @@
 -- A buffer that is filled from the front: its bytes, and the place of the next one.
 use Prim.Native.Nat.{ℕ, _+_}
-use mathlib.Core.List.{List, [], _∷_}
+use mathlib.Core.List.{List, foldl}
 use lib.ListN.{length, set, take}
 use lib.Dec.{ltb}
 use Rattle.common.specs.Pick.{pick}
@@ -19,8 +19,7 @@ push s c = pick (ltb (s .at) (length (s .text))) (sheet (set (s .text) (s .at) c
 
 -- bytes one after the other
 unfoldable pub puts : Sheet → List ℕ → Sheet
-puts s [] = s
-puts s (c ∷ t) = puts (push s c) t
+puts s t = foldl push s t
 
 -- what stands in it so far
 abbrev pub shownOf : Sheet → List ℕ

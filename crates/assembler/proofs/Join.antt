@@ -1,11 +1,9 @@
 -- One character and a whole text, gathered; the parts of a file, bound.
-use Prim.Native.Nat.{ℕ, _+_, _≤_, _<_}
-use mathlib.Core.List.{List, [], _∷_, _++_}
+use Prim.Native.Nat.{ℕ}
+use mathlib.Core.List.{List, _++_}
 use mathlib.Core.Bool.{Bool, true, false}
-use mathlib.Core.Path.{_≡_, refl, sym, ap, _∙_}
-use native.Mathlib.Numerals.{add-one}
-use lib.ListN.{length, drop, getD, drop-of-length-le, replicate}
-use lib.Seq.{drop-cons}
+use mathlib.Core.Path.{_≡_, sym, ap, _∙_}
+use lib.ListN.{length, replicate}
 use Rattle.append.specs.Sheet.{Sheet, sheet, puts, shownOf}
 use Rattle.append.proofs.Laws.{then}
 use Rattle.reader.specs.declared.reader.Reader.{Reader}
@@ -20,21 +18,6 @@ pub stepped-by : (file : List ℕ) (k : State) (c : ℕ) {r : Reader} {f o s : S
     → made r f o s ≡ stepped file k c
 unfolding stepped
 stepped-by file k c e p q t = simp (p, q, t, e)
-
--- two texts one after the other
-pub runs-append : (file : List ℕ) (k : State) (a b : List ℕ) → runs file k (a ++ b) ≡ runs file (runs file k a) b
-unfolding runs
-runs-append file k [] b = refl
-runs-append file k (c ∷ a) b = runs-append file (stepped file k c) a b
-
-pub runs-next : (file : List ℕ) (k : State) {t : State} (l : List ℕ) (i : ℕ) → i < length l → t ≡ stepped file k (getD l i 0)
-    → runs file k (drop i l) ≡ runs file t (drop (i + 1) l)
-unfolding runs
-runs-next file k l i h e = rw (add-one, drop-cons l i 0 h, e)
-
-pub runs-end : (file : List ℕ) (k : State) (l : List ℕ) (i : ℕ) → length l ≤ i → runs file k (drop i l) ≡ k
-unfolding runs
-runs-end file k l i h = rw (drop-of-length-le l h)
 
 -- contents, settings and fill, ROM, script
 pub bound-by : (s : Sheet) {t u v w : Sheet} (front rom script : List ℕ) {x y z : ℕ} → x ≡ fillSize (length front)

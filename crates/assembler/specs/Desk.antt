@@ -1,6 +1,6 @@
 -- The bytes that a text (docs/BENCH.md) says, gathered in three buffers: settings and fill, ROM, script.
 use Prim.Native.Nat.{ℕ}
-use mathlib.Core.List.{List, [], _∷_}
+use mathlib.Core.List.{List, [], _∷_, foldl}
 use Rattle.common.specs.Table.{find, at}
 use Rattle.append.specs.Sheet.{Sheet, sheet, puts}
 use Rattle.reader.specs.declared.draft.Draft.{Draft}
@@ -45,8 +45,7 @@ stepped file k c = added file (k .front) (k .rom) (k .script) (readOf (k .reader
 
 -- all characters of a text
 unfoldable pub runs : List ℕ → State → List ℕ → State
-runs file s [] = s
-runs file s (c ∷ t) = runs file (stepped file s c) t
+runs file s t = foldl (stepped file) s t
 
 -- before the first character
 abbrev pub opened : List ℕ → List ℕ → List ℕ → State

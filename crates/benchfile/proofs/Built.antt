@@ -21,7 +21,7 @@ module _ (s f r c : List ℕ) where
   unfolding contentsOf
   front-32 = refl
 
-  length-build : length (build s f r c) ≡ 32 + length s + length f + length r + length c
+  pub length-build : length (build s f r c) ≡ 32 + length s + length f + length r + length c
   unfolding build
   length-build = simp (length-append, front-32)
 

@@ -1,6 +1,6 @@
 -- The rows of a script, one by one.
 use Prim.Native.Nat.{ℕ, zero, suc, _+_, _/_, _%_, _≤_, _<_}
-use mathlib.Core.Bool.{true, false}
+use mathlib.Core.Bool.{true, false, false≢true}
 use mathlib.Core.List.{List}
 use mathlib.Core.Logic.{⊎-elim}
 use mathlib.Core.Path.{_≡_, refl, sym, _∙_}
@@ -13,7 +13,7 @@ use borrow.Author.Tests.{eq-eqb, ne-eqb, eqb-true}
 use Rattle.benchfile.specs.declared.row.Row.the-variants.{Broken}
 use Rattle.benchfile.specs.Row.{formedRow, rowBytes, rowAt}
 use Rattle.benchfile.specs.File.{rowsFormed, scriptFormed}
-use Rattle.benchfile.proofs.Tests.{both, never, fails}
+use Rattle.benchfile.proofs.Tests.{both, fails}
 
 module _ (s : List ℕ) where
   pub none : rowsFormed s 0 ≡ true
@@ -63,7 +63,7 @@ module _ (s : List ℕ) (rows : length s % 8 ≡ 0) where
   unfolding scriptFormed
   bad i h b =
       rw (eq-eqb (length s % 8) 0 rows)
-      (fails (rowsFormed s (length s / 8)) (λ t. never (sym b ∙ each s (length s / 8) i h t)))
+      (fails (rowsFormed s (length s / 8)) (λ t. false≢true (sym b ∙ each s (length s / 8) i h t)))
 
   pub whole : (i : ℕ) → i ≤ length s / 8 → length s / 8 ≤ i → rowsFormed s i ≡ true → scriptFormed s ≡ true
   unfolding scriptFormed

@@ -1,6 +1,6 @@
 -- Between two lines: a line starts anew whatever the line before completed, and what a line without bytes of a fill or a ROM adds.
 use Prim.Native.Nat.{ℕ}
-use mathlib.Core.Bool.{true, false}
+use mathlib.Core.Bool.{true, false, false≢true}
 use mathlib.Core.List.{List, [], _∷_}
 use mathlib.Core.Path.{_≡_, refl, sym, ap, _∙_}
 use lib.Dec.{eqb}
@@ -8,9 +8,7 @@ use Rattle.append.specs.Sheet.{Sheet, puts}
 use Rattle.fields.specs.Bytes.{byteAt}
 use Rattle.common.specs.Width.{Bytes}
 use Rattle.benchfile.specs.Row.{formedRow}
-use Rattle.benchfile.proofs.Tests.{never}
 use Rattle.reader.specs.declared.reader.Reader.{Reader}
-use Rattle.reader.specs.Draft.{draft}
 use Rattle.reader.specs.Reader.{readOf, reads}
 use Rattle.lister.specs.Row.{rowText}
 use Rattle.assembler.specs.Desk.{State, frontOf, romOf, scriptOf, stepped, runs, made, added}
@@ -53,7 +51,7 @@ module _ (p k x₁ x₂ x₃ x₄ e : ℕ) (ok : eqb e 9 ≡ false) where
     module _ (some : eqb (q .draft .emit) 0 ≡ false) where
       nothing : {A : Type 0} → quietly (before p k x₁ x₂ x₃ x₄ 0) [] ≡ q → A
       unfolding quietly
-      nothing h = never (sym some ∙ ap (λ (r : Reader). eqb (r .draft .emit) 0) (sym h))
+      nothing h = absurd (false≢true (sym some ∙ ap (λ (r : Reader). eqb (r .draft .emit) 0) (sym h)))
 
       pub text-reads : (t : List ℕ) → quietly (before p k x₁ x₂ x₃ x₄ 0) t ≡ q → reads (before p k x₁ x₂ x₃ x₄ e) t ≡ q
       text-reads [] h = nothing h

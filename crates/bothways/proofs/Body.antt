@@ -1,7 +1,7 @@
 -- A line of bytes of a fill or a ROM: each comes back, and adds itself.
-use Prim.Native.Nat.{ℕ, suc, _+_, _/_, _%_, _≤_, _<_}
+use Prim.Native.Nat.{ℕ, _/_, _%_, _≤_, _<_}
 use mathlib.Core.Bool.{Bool, true, false}
-use mathlib.Core.List.{List, [], _∷_, _++_}
+use mathlib.Core.List.{List, [], _∷_, _++_, foldl-append}
 use mathlib.Core.Path.{_≡_, refl, ap, _∙_}
 use native.Mathlib.Omega.{arith}
 use borrow.Author.Tests.{le-leb}
@@ -16,7 +16,6 @@ use Rattle.reader.specs.Reader.{reader, shutOf, spacedOf, plainOf, stepOf, read
 use Rattle.append.specs.Number.{glyphOf, hexes}
 use Rattle.lister.specs.Body.{bytesText, fillWord, romWord}
 use Rattle.assembler.specs.Desk.{State, frontOf, romOf, scriptOf, stepped, runs, made, added}
-use Rattle.assembler.proofs.Join.{runs-append}
 use Rattle.bothways.proofs.Quietly.{quietly, quietly-runs, one}
 use Rattle.bothways.proofs.Digits.{byte-2}
 use Rattle.bothways.proofs.Rows.{before}
@@ -162,7 +161,7 @@ module _ (file : List ℕ) (b : Section) (i : Bool) (f o s : Sheet) (x y z : ℕ
   next-byte =
       ap (λ (k : State). runs file (stepped file k 36) (glyphOf (z / 16) ∷ glyphOf z ∷ t)) at-space
       ∙ ap (λ (k : State). runs file k (glyphOf (z / 16) ∷ glyphOf z ∷ t)) at-dollar
-      ∙ runs-append file (added file front image s (dollarRead b x)) (glyphOf (z / 16) ∷ glyphOf z ∷ []) t
+      ∙ foldl-append (stepped file) (added file front image s (dollarRead b x)) (glyphOf (z / 16) ∷ glyphOf z ∷ []) t
       ∙ ap (λ (k : State). runs file k t)
       (quietly-runs (byteRead b false z x) refl file front image s (dollarRead b x) (glyphOf (z / 16) ∷ glyphOf z ∷ []) (digits b x z lz)
       ∙ nothing file b front image s z x false)

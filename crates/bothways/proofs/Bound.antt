@@ -8,7 +8,8 @@ use borrow.Author.Tests.{lt-ltb, le-ltb}
 use Rattle.append.specs.Sheet.{Sheet, sheet, puts, shownOf}
 use Rattle.append.proofs.Laws.{puts-room}
 use Rattle.benchfile.specs.File.{fileCheck}
-use Rattle.benchfile.specs.Build.{contentsOf, build}
+use Rattle.benchfile.specs.Build.{build}
+use Rattle.benchfile.proofs.Built.{length-build}
 use Rattle.assembler.specs.Bind.{sizeOf, fillSize, bound}
 use Rattle.assembler.specs.Assemble.{checked, finished}
 
@@ -30,14 +31,10 @@ fill-small n h =
     rw (le-ltb (2 + n) 2 l, e) (size-small n h)
 
 module _ (a b c d : List ℕ) where
-  pub length-build : length (build a b c d) ≡ 32 + length a + length b + length c + length d
-  unfolding build contentsOf
-  length-build = simp length-append (omega arith)
-
   pub bound-build : length a ≡ 2 → length (build a b c d) ≤ 65536 → bound (a ++ b) c d ≡ build a b c d
   unfolding bound build
   bound-build two short =
-      let n = length-build in
+      let n = length-build a b c d in
       let lb : length b < 65536 = omega arith in
       let lc : length c < 65536 = omega arith in
       let ld : length d < 65536 = omega arith in

@@ -1,14 +1,14 @@
 -- The lines of a fill or a ROM add its bytes, those of a script its rows.
 use Prim.Native.Nat.{ℕ, zero, suc, _+_, _*_, _/_, _%_, _<_}
 use mathlib.Core.Bool.{true, false}
-use mathlib.Core.List.{List, [], _∷_, _++_, append-assoc, append-nil}
+use mathlib.Core.List.{List, [], _∷_, _++_, append-assoc, append-nil, foldl-append}
 use mathlib.Core.Path.{_≡_, refl, sym, ap, subst, _∙_}
 use native.Mathlib.Omega.{arith}
 use lib.ListN.{length, take, drop}
 use lib.Seq.{take-add, drop-drop, take-all}
 use Rattle.append.specs.Texts.{each}
 use Rattle.append.specs.Sheet.{Sheet, puts}
-use Rattle.append.proofs.Laws.{puts-append}
+use Rattle.append.proofs.Laws.{then}
 use Rattle.fields.specs.Bytes.{partOf}
 use Rattle.common.specs.Width.{Bytes}
 use Rattle.benchfile.specs.Row.{formedRow, rowBytes}
@@ -24,8 +24,7 @@ use Rattle.append.specs.Number.{glyphOf, hexes}
 use Rattle.lister.specs.Body.{bytesText, lineText, linesFrom, linesText}
 use Rattle.lister.specs.Row.{rowText}
 use Rattle.lister.specs.List.{rowsText, scriptText}
-use Rattle.assembler.specs.Desk.{State, runs, made}
-use Rattle.assembler.proofs.Join.{runs-append}
+use Rattle.assembler.specs.Desk.{State, stepped, runs, made}
 use Rattle.bothways.proofs.Quietly.{quietly}
 use Rattle.bothways.proofs.Digits.{byte-2}
 use Rattle.bothways.proofs.Rows.{Open, rows, before}
@@ -96,11 +95,11 @@ module _ (file : List ℕ) (b : Section) (f o s : Sheet) where
         ∙ nothing file b (puts f (toFront b a)) (puts o (toRom b a)) s z 0 true
 
     ran : runs file k (lineText (wordOf b) (z ∷ l)) ≡ gained b (lineRead b (lastOf z l)) (puts f (toFront b a)) (puts o (toRom b a)) s (z ∷ l)
-    unfolding lineText hexes
+    unfolding lineText hexes runs
     ran =
         ap (λ (x : State). runs file x (wordOf b ++ (32 ∷ 36 ∷ glyphOf (z / 16) ∷ glyphOf z ∷ (bytesText l ++ (10 ∷ []))))) (r .is)
         ∙ ap (runs file was) (parted b z (bytesText l ++ (10 ∷ [])))
-        ∙ runs-append file was (head b ∷ (letters b ++ (32 ∷ 36 ∷ glyphOf (z / 16) ∷ glyphOf z ∷ []))) (bytesText l ++ (10 ∷ []))
+        ∙ foldl-append (stepped file) was (head b ∷ (letters b ++ (32 ∷ 36 ∷ glyphOf (z / 16) ∷ glyphOf z ∷ []))) (bytesText l ++ (10 ∷ []))
         ∙ ap (λ (x : State). runs file x (bytesText l ++ (10 ∷ []))) opened
         ∙ bytes-run file b true (puts f (toFront b a)) (puts o (toRom b a)) s z 0 l small
 
@@ -110,13 +109,13 @@ module _ (file : List ℕ) (b : Section) (f o s : Sheet) where
 
 front-more : (b : Section) (f : Sheet) (a l : List ℕ) → puts (puts f (toFront b a)) (toFront b l) ≡ puts f (toFront b (a ++ l))
 unfolding puts
-front-more fill f a l = sym (puts-append f a l)
+front-more fill f a l = then f a l refl refl
 front-more rom f a l = refl
 
 rom-more : (b : Section) (o : Sheet) (a l : List ℕ) → puts (puts o (toRom b a)) (toRom b l) ≡ puts o (toRom b (a ++ l))
 unfolding puts
 rom-more fill o a l = refl
-rom-more rom o a l = sym (puts-append o a l)
+rom-more rom o a l = then o a l refl refl
 
 fine : (b : Section) → eqb (emitOf b) 9 ≡ false
 fine fill = refl
@@ -165,7 +164,7 @@ module _ (file : List ℕ) (b : Section) (f o s : Sheet) (l : List ℕ) (small :
       let q : (a ++ p) ++ partOf l ((i + 1) * 16) (n * 16) ≡ a ++ partOf l (i * 16) (suc n * 16) =
       append-assoc a p (partOf l ((i + 1) * 16) (n * 16)) ∙ ap (λ (x : List ℕ). a ++ x) (part-next l 16 i n) in
       let u = subst (λ (x : List ℕ). Holds file b f o s x (runs file (runs file k (lineText (wordOf b) p)) t)) q rest in
-      subst (λ (x : State). Holds file b f o s (a ++ partOf l (i * 16) (suc n * 16)) x) (sym (runs-append file k (lineText (wordOf b) p) t)) u
+      subst (λ (x : State). Holds file b f o s (a ++ partOf l (i * 16) (suc n * 16)) x) (sym (foldl-append (stepped file) k (lineText (wordOf b) p) t)) u
 
   -- all lines
   pub lines-add : (k : State) → Holds file b f o s [] k → Holds file b f o s l (runs file k (linesText (wordOf b) l))
@@ -190,14 +189,14 @@ module _ (file : List ℕ) (f o s : Sheet) where
         let p : List ℕ = partOf l (i * 8) 8 in
         let t : List ℕ = rowsText l n (i + 1) in
         let one = row-line file f o (puts s a) p (part-bytes l (i * 8) 8 small) (h i (omega arith)) (r .0) (r .1 .0) k (r .1 .1) in
-        let put : puts (puts s a) p ≡ puts s (a ++ p) = sym (puts-append s a p) in
+        let put : puts (puts s a) p ≡ puts s (a ++ p) = then s a p refl refl in
         let here : Scripted (a ++ p) (runs file k (rowText p)) =
         (4, (rows, subst (λ (x : Sheet). Rest 4 f o x (runs file k (rowText p))) put one)) in
         let rest = rows-from n (i + 1) (λ j m. h j (omega arith)) (a ++ p) (runs file k (rowText p)) here in
         let q : (a ++ p) ++ partOf l ((i + 1) * 8) (n * 8) ≡ a ++ partOf l (i * 8) (suc n * 8) =
         append-assoc a p (partOf l ((i + 1) * 8) (n * 8)) ∙ ap (λ (x : List ℕ). a ++ x) (part-next l 8 i n) in
         let u = subst (λ (x : List ℕ). Scripted x (runs file (runs file k (rowText p)) t)) q rest in
-        subst (λ (x : State). Scripted (a ++ partOf l (i * 8) (suc n * 8)) x) (sym (runs-append file k (rowText p) t)) u
+        subst (λ (x : State). Scripted (a ++ partOf l (i * 8) (suc n * 8)) x) (sym (foldl-append (stepped file) k (rowText p) t)) u
 
     -- all rows
     pub rows-add : scriptFormed l ≡ true → (k : State) → Scripted [] k → Scripted l (runs file k (scriptText l))

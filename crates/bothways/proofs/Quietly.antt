@@ -1,13 +1,13 @@
 -- Text before whose characters nothing is completed and no file name is read: only the last one can add to a buffer.
 use Prim.Native.Nat.{ℕ}
-use mathlib.Core.Bool.{Bool, true, false, not, _&&_}
+use mathlib.Core.Bool.{Bool, true, false, not, _&&_, false≢true}
 use mathlib.Core.List.{List, [], _∷_}
 use mathlib.Core.Path.{_≡_, refl, sym, ap, _∙_}
 use lib.Dec.{eqb}
 use borrow.Author.Tests.{eqb-true}
 use Rattle.common.specs.Pick.{pick}
 use Rattle.append.specs.Sheet.{Sheet, puts}
-use Rattle.benchfile.proofs.Tests.{both, never}
+use Rattle.benchfile.proofs.Tests.{both}
 use Rattle.reader.specs.declared.reader.Reader.{Reader}
 use Rattle.reader.specs.Word.{blankWord}
 use Rattle.reader.specs.Draft.{draft}
@@ -35,7 +35,7 @@ one file f o s r c = refl
 module _ (q : Reader) (fine : eqb (q .draft .emit) 8 ≡ false) where
   -- loud is not fine
   pub not-loud : {A : Type 0} → loud ≡ q → A
-  not-loud e = never (sym fine ∙ ap (λ (r : Reader). eqb (r .draft .emit) 8) (sym e))
+  not-loud e = absurd (false≢true (sym fine ∙ ap (λ (r : Reader). eqb (r .draft .emit) 8) (sym e)))
 
   quiet-read : (b : Bool) (r : Reader) (t : List ℕ) → (quietly r t ≡ q → reads r t ≡ q) → pick b (quietly r t) loud ≡ q → reads r t ≡ q
   quiet-read true r t ih e = ih e

@@ -1,23 +1,24 @@
 -- How long the text of a file can be: the buffers of the programs have room for it.
 use Prim.Native.Nat.{ℕ, zero, suc, _+_, _*_, _/_, _≤_, _<_}
-use mathlib.Core.List.{List, [], _∷_}
+use mathlib.Core.List.{List, [], _∷_, _++_}
 use mathlib.Core.Path.{_≡_, refl}
 use native.Mathlib.Omega.{arith}
 use lib.Dec.{eqb}
 use lib.ListN.{length, take, drop, length-append}
 use Rattle.append.specs.Texts.{each}
-use Rattle.common.proofs.AllLaws.{byte-fits}
+use Rattle.common.proofs.AllLaws.{_also_, byte-fits}
 use Rattle.common.specs.Pick.{pick}
-use Rattle.common.specs.Table.{Entry, among, find}
+use Rattle.common.specs.Table.{at}
+use Rattle.common.proofs.TableLaws.{pick-elim, find-elim}
 use Rattle.fields.specs.Bytes.{byteAt, partOf}
 use Rattle.common.specs.Width.{Bytes}
 use Rattle.fields.specs.Little.{field}
 use Rattle.benchfile.specs.Row.{rowBytes}
 use Rattle.benchfile.proofs.Parts.{part-bytes}
-use Rattle.append.proofs.Decimal.{short, either}
+use Rattle.append.proofs.Decimal.{short}
 use Rattle.append.specs.Number.{decimal, hexes}
 use Rattle.lister.specs.Body.{bytesText, lineText, linesFrom, linesText}
-use Rattle.lister.specs.Row.{eventText, flagsText, cyclesText, padText, plugText, backText, onWord, offWord, texts, rowText}
+use Rattle.lister.specs.Row.{eventText, flagsText, cyclesText, padText, plugText, backText, lineWord, timerWord, onWord, offWord, texts, rowText}
 use Rattle.lister.specs.List.{rowsText, scriptText, settingsText}
 
 abbrev Short : ℕ → List ℕ → Type 0
@@ -30,13 +31,13 @@ event-short : (e : ℕ) → e < 65536 → Short 12 (eventText e)
 unfolding eventText
 event-short e h =
     let d = decimal-short e h in
-    either 12 (eqb e 0) [] _ (omega arith) (omega arith)
+    pick-elim (Short 12) (eqb e 0) (omega arith) (omega arith)
 
 flags-short : (f : ℕ) → Short 11 (flagsText f)
 unfolding flagsText
 flags-short f =
-    either 11 (among (1 ∷ []) f) _ _ (omega arith)
-    (either 11 (among (2 ∷ []) f) _ _ (omega arith) (either 11 (among (3 ∷ []) f) _ _ (omega arith) (omega arith)))
+    find-elim (Short 11) (at 1 lineWord ∷ at 2 timerWord ∷ at 3 (lineWord ++ timerWord) ∷ []) f
+    (omega arith also omega arith also omega arith also tt) (omega arith)
 
 cycles-short : (n e f : ℕ) → n < 65536 → e < 65536 → Short 36 (cyclesText n e f)
 unfolding cyclesText
@@ -49,21 +50,12 @@ pad-short p l h k = simp length-append (omega (arith, decimal-short p k))
 plug-short : (p on : ℕ) → p < 65536 → Short 36 (plugText p on)
 unfolding plugText
 plug-short p on h =
-    let w : Short 5 (pick (eqb on 1) onWord offWord) = either 5 (eqb on 1) onWord offWord (omega arith) (omega arith) in
+    let w : Short 5 (pick (eqb on 1) onWord offWord) = pick-elim (Short 5) (eqb on 1) (omega arith) (omega arith) in
     simp length-append (omega (arith, decimal-short p h, w))
 
 back-short : (n : ℕ) → n < 65536 → Short 36 (backText n)
 unfolding backText
 back-short n h = simp length-append (omega (arith, decimal-short n h))
-
--- a table of short lines
-abbrev Shorts : List (Entry (List ℕ)) → Type 0
-Shorts [] = Unit
-Shorts (e ∷ t) = Short 36 (e .gives) × Shorts t
-
-short-found : (t : List (Entry (List ℕ))) (k : ℕ) → Shorts t → Short 36 (find t k [])
-short-found [] k h = omega arith
-short-found (e ∷ t) k h = either 36 (among (e .keys) k) (e .gives) (find t k []) (h .0) (short-found t k (h .1))
 
 row-short : (b : List ℕ) → Bytes b → Short 36 (rowText b)
 unfolding rowText
@@ -71,19 +63,16 @@ row-short b h =
     let h₁ = byte-fits b 1 h in
     let h₂ = byte-fits b 2 h in
     let h₃ = byte-fits b 3 h in
-    short-found (texts b) (byteAt b 0) (
-      cycles-short (field 2 b 1) (byteAt b 3) (byteAt b 4) (omega arith) (omega arith),
-      (
-        omega arith,
-        (
-          omega arith,
-          (
-            pad-short (byteAt b 1) (byteAt b 2) (byteAt b 3) (omega arith),
-            (plug-short (byteAt b 1) (byteAt b 2) (omega arith), (omega arith, (back-short (field 2 b 1) (omega arith), tt))),
-          ),
-        ),
-      ),
-    )
+    find-elim (Short 36) (texts b) (byteAt b 0)
+    (cycles-short (field 2 b 1) (byteAt b 3) (byteAt b 4) (omega arith) (omega arith)
+    also omega arith
+    also omega arith
+    also pad-short (byteAt b 1) (byteAt b 2) (byteAt b 3) (omega arith)
+    also plug-short (byteAt b 1) (byteAt b 2) (omega arith)
+    also omega arith
+    also back-short (field 2 b 1) (omega arith)
+    also tt)
+    (omega arith)
 
 rows-short : (s : List ℕ) → Bytes s → (n i : ℕ) → Short (n * 36) (rowsText s n i)
 unfolding each

@@ -1,7 +1,7 @@
 -- What the text of settings, fill, ROM and script says: their bytes, in the three buffers.
 use Prim.Native.Nat.{ℕ, _/_, _%_, _≤_, _<_}
 use mathlib.Core.Bool.{true}
-use mathlib.Core.List.{List, [], _∷_, _++_}
+use mathlib.Core.List.{List, [], _∷_, _++_, foldl-append}
 use mathlib.Core.Path.{_≡_, sym, subst, _∙_}
 use native.Mathlib.Omega.{arith}
 use lib.ListN.{length}
@@ -17,8 +17,7 @@ use Rattle.benchfile.proofs.Parts.{listed}
 use Rattle.reader.specs.Reader as reading
 use Rattle.lister.specs.Body.{linesText, fillWord, romWord}
 use Rattle.lister.specs.List.{settingsText, scriptText}
-use Rattle.assembler.specs.Desk.{State, runs, made}
-use Rattle.assembler.proofs.Join.{runs-append}
+use Rattle.assembler.specs.Desk.{State, stepped, runs, made}
 use Rattle.bothways.proofs.Rows as phases
 use Rattle.bothways.proofs.Between.{Rest}
 use Rattle.bothways.proofs.Settings.{settings-line}
@@ -83,10 +82,11 @@ module _ (file a b c d : List ℕ) (sa : Bytes a) (sb : Bytes b) (sc : Bytes c) 
     said-3 = to-rows file (puts (puts f a) b) o s k₃ c (lines-add file body.rom (puts (puts f a) b) o s c sc k₂ said-2)
 
     joined : runs file (made reading.startOf f o s) text ≡ runs file k₃ (scriptText d)
+    unfolding runs
     joined =
-        runs-append file (made reading.startOf f o s) (settingsText number) (linesText fillWord b ++ (linesText romWord c ++ scriptText d))
-        ∙ runs-append file k₁ (linesText fillWord b) (linesText romWord c ++ scriptText d)
-        ∙ runs-append file k₂ (linesText romWord c) (scriptText d)
+        foldl-append (stepped file) (made reading.startOf f o s) (settingsText number) (linesText fillWord b ++ (linesText romWord c ++ scriptText d))
+        ∙ foldl-append (stepped file) k₁ (linesText fillWord b) (linesText romWord c ++ scriptText d)
+        ∙ foldl-append (stepped file) k₂ (linesText romWord c) (scriptText d)
 
     pub says : Scripted file (puts (puts f a) b) (puts o c) s d (runs file (made reading.startOf f o s) text)
     says =

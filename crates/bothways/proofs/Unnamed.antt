@@ -4,12 +4,13 @@ use mathlib.Core.Bool.{Bool, true, false, not}
 use mathlib.Core.List.{List, [], _∷_, _++_}
 use mathlib.Core.Path.{_≡_, refl, sym, subst}
 use native.Mathlib.Omega.{arith}
+use borrow.Author.Tests.{not-true}
 use lib.Dec.{eqb}
 use lib.ListN.{length}
 use Rattle.common.specs.Pick.{pick}
-use Rattle.benchfile.proofs.Tests.{both, never}
+use Rattle.benchfile.proofs.Tests.{both}
 use Rattle.reader.specs.declared.reader.Reader.{Reader}
-use Rattle.reader.specs.Reader.{readOf, reads, unnamedOf}
+use Rattle.reader.specs.Reader.{readOf, reads, untilOf, unnamedOf}
 use Rattle.assembler.specs.Desk.{State, stepped, runs}
 use Rattle.bothways.proofs.Quietly.{loud, calm, quietly, not-loud}
 use Rattle.bothways.proofs.Rows.{before}
@@ -19,16 +20,16 @@ abbrev pub Unnamed : Reader → List ℕ → Type 0
 Unnamed r t = unnamedOf r t ≡ length t
 
 pub unnamed-none : (r : Reader) → Unnamed r []
-unfolding unnamedOf
+unfolding untilOf
 unnamed-none r = refl
 
 -- one character more in front
 pub unnamed-next : (r : Reader) (c : ℕ) (t : List ℕ) → eqb (r .word .form) 8 ≡ false → Unnamed (readOf r c) t → Unnamed r (c ∷ t)
-unfolding unnamedOf
+unfolding untilOf
 unnamed-next r c t z h = rw (z, h) (omega arith)
 
 parts : (r : Reader) (c : ℕ) (t : List ℕ) → Unnamed r (c ∷ t) → (eqb (r .word .form) 8 ≡ false) × Unnamed (readOf r c) t
-unfolding unnamedOf
+unfolding untilOf
 parts r c t h = go (eqb (r .word .form) 8) refl h
   where
     go : (b : Bool) → eqb (r .word .form) 8 ≡ b → pick b 0 (1 + unnamedOf (readOf r c) t) ≡ length (c ∷ t)
@@ -52,16 +53,12 @@ runs-reads file k (c ∷ t) = runs-reads file (stepped file k c) t
 pub unnamed-runs : (file : List ℕ) (k : State) (a b : List ℕ) → Unnamed (k .reader) a → Unnamed (runs file k a .reader) b → Unnamed (k .reader) (a ++ b)
 unnamed-runs file k a b h g = unnamed-append (k .reader) a b h (subst (λ (r : Reader). Unnamed r b) (runs-reads file k a) g)
 
-is-false : (b : Bool) → not b ≡ true → b ≡ false
-is-false true h = never h
-is-false false h = refl
-
 -- what is read quietly has no name
 module _ (q : Reader) (fine : eqb (q .draft .emit) 8 ≡ false) where
   quiet-step : (r : Reader) (c : ℕ) (t : List ℕ) (b : Bool) → calm r ≡ b → (quietly (readOf r c) t ≡ q → Unnamed (readOf r c) t)
       → pick b (quietly (readOf r c) t) loud ≡ q → Unnamed r (c ∷ t)
   quiet-step r c t true z ih e =
-      unnamed-next r c t (is-false (eqb (r .word .form) 8) (both (eqb (r .draft .emit) 0) (not (eqb (r .word .form) 8)) z .1)) (ih e)
+      unnamed-next r c t (not-true (eqb (r .word .form) 8) (both (eqb (r .draft .emit) 0) (not (eqb (r .word .form) 8)) z .1)) (ih e)
   quiet-step r c t false z ih e = not-loud q fine e
 
   pub quietly-unnamed : (r : Reader) (t : List ℕ) → quietly r t ≡ q → Unnamed r t

@@ -1,15 +1,16 @@
 -- Assemble of list is the file.
 use Prim.Native.Nat.{ℕ, _≤_}
 use mathlib.Core.List.{List, [], _++_}
-use mathlib.Core.Path.{_≡_, sym, ap, subst, _∙_}
+use mathlib.Core.Path.{_≡_, refl, ap, subst, _∙_}
 use native.Mathlib.Omega.{arith}
 use lib.ListN.{length, replicate, length-append}
 use Rattle.append.specs.Sheet.{Sheet, sheet, puts, shownOf}
-use Rattle.append.proofs.Laws.{puts-append, puts-room}
+use Rattle.append.proofs.Laws.{then, puts-room}
 use Rattle.common.proofs.AllLaws.{byte-fits}
 use Rattle.common.specs.Width.{Bytes}
 use Rattle.fields.specs.Little.{field}
 use Rattle.benchfile.specs.File.{fileCheck}
+use Rattle.benchfile.proofs.Built.{length-build}
 use Rattle.reader.specs.Reader.{startOf, unnamedOf}
 use Rattle.lister.specs.Body.{fillWord, romWord}
 use Rattle.lister.specs.List.{listText}
@@ -18,7 +19,7 @@ use Rattle.assembler.specs.Assemble.{said, left, assembled}
 use Rattle.bothways.proofs.Lines.{Scripted}
 use Rattle.bothways.proofs.Says.{says, nameless}
 use Rattle.bothways.proofs.Room.{settings-short, lines-short, script-short}
-use Rattle.bothways.proofs.Bound.{length-build, there, finished-file}
+use Rattle.bothways.proofs.Bound.{there, finished-file}
 use Rattle.bothways.proofs.Finish.{bodies}
 use Rattle.bothways.proofs.Sections as of
 
@@ -67,7 +68,7 @@ module _ (f : List ℕ) (small : Bytes f) (sound : fileCheck f ≡ 0) where
       unfolding listText
       gets =
           subst (λ (x : Sheet). Scripted file x (puts (sheet (replicate m 0) 0) image) (sheet (replicate q 0) 0) script all)
-          (sym (puts-append (sheet (replicate n 0) 0) settings ram))
+          (then (sheet (replicate n 0) 0) settings ram refl refl)
           (says file settings ram image script (of.bytes f small sound 0) (of.bytes f small sound 1) (of.bytes f small sound 2) (of.bytes f small sound 3)
           (of.two f small sound) (of.least f small sound) (of.formed f small sound)
           (sheet (replicate n 0) 0) (sheet (replicate m 0) 0) (sheet (replicate q 0) 0))

@@ -1,7 +1,7 @@
 -- The text form (docs/BENCH.md), one character after the other.
 use Prim.Native.Nat.{ℕ, _+_}
 use mathlib.Core.Bool.{Bool, _||_}
-use mathlib.Core.List.{List, [], _∷_}
+use mathlib.Core.List.{List, [], _∷_, foldl}
 use lib.Dec.{eqb}
 use Rattle.common.specs.Pick.{pick}
 use Rattle.common.specs.Table.{Entry, find, at}
@@ -68,17 +68,19 @@ stepOf w d s c =
 unfoldable pub readOf : Reader → ℕ → Reader
 readOf r c = pick (eqb (r .draft .emit) 9) r (stepOf (r .word) (quietOf (r .draft)) (signOf c) c)
 
--- how many characters are read before the one at which the text fails; all, if it does not
-unfoldable pub soundOf : Reader → List ℕ → ℕ
-soundOf r [] = 0
-soundOf r (c ∷ t) = pick (eqb (readOf r c .draft .emit) 9) 0 (1 + soundOf (readOf r c) t)
+-- how many characters are read before the first at which a test of it and the reader before it holds; all, if it never does
+unfoldable pub untilOf : (Reader → ℕ → Bool) → Reader → List ℕ → ℕ
+untilOf test r [] = 0
+untilOf test r (c ∷ t) = pick (test r c) 0 (1 + untilOf test (readOf r c) t)
 
--- how many are read before a file name starts; all, if there is none
-unfoldable pub unnamedOf : Reader → List ℕ → ℕ
-unnamedOf r [] = 0
-unnamedOf r (c ∷ t) = pick (eqb (r .word .form) 8) 0 (1 + unnamedOf (readOf r c) t)
+-- before the one at which the text fails
+abbrev pub soundOf : Reader → List ℕ → ℕ
+soundOf = untilOf (λ r c. eqb (readOf r c .draft .emit) 9)
+
+-- before a file name starts
+abbrev pub unnamedOf : Reader → List ℕ → ℕ
+unnamedOf = untilOf (λ r c. eqb (r .word .form) 8)
 
 -- all characters of a text
 unfoldable pub reads : Reader → List ℕ → Reader
-reads r [] = r
-reads r (c ∷ t) = reads (readOf r c) t
+reads r t = foldl readOf r t

@@ -1,5 +1,5 @@
-use Rattle.append.proofs.Laws.{puts-next, puts-end}
-use Rattle.append.specs.Sheet.{sheet, puts}
+use Rattle.common.proofs.FoldLaws.{fold-next, fold-end}
+use Rattle.append.specs.Sheet.{sheet, push, puts}
 use native.Mathlib.Omega.{arith}
 use lib.ListN.{length, drop}
 use Prim.Native.Nat.{_-_}
@@ -30,13 +30,15 @@ loop-less : tie.Need-loop-less Inv-loop μ-loop
 loop-less c = omega arith
 
 loop-again : tie.Need-loop-again Inv-loop μ-loop
-loop-again c = ((c .before .before .push-byte .kept .0) ∙ (c .before .before .before .before .before .before .loop .inv .0), (c .before .before .before .before .before .before .loop .inv .1) ∙ puts-next _ _ _ (c .before .before .before .before .before .loop-test .taken) (c .before .before .push-byte .ensures))
+unfolding puts
+loop-again c = ((c .before .before .push-byte .kept .0) ∙ (c .before .before .before .before .before .before .loop .inv .0), (c .before .before .before .before .before .before .loop .inv .1) ∙ fold-next push _ _ 0 (c .before .before .before .before .before .loop-test .taken) (c .before .before .push-byte .ensures))
 
 same-length : tie.Need-same-length Inv-loop μ-loop
 same-length c = (c .before .loop .inv .0)
 
 returns : tie.Need-returns Inv-loop μ-loop
-returns c = sym ((c .before .loop .inv .1) ∙ puts-end _ _ _ (c .loop-test .left))
+unfolding puts
+returns c = sym ((c .before .loop .inv .1) ∙ fold-end push _ _ (c .loop-test .left))
 
 pub put-spec : {M : Type 1} → statement M
 put-spec =

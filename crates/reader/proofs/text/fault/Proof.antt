@@ -1,6 +1,9 @@
 use Rattle.reader.specs.declared.reader.Reader.{Reader}
-use Rattle.reader.proofs.Walk.{none, fault-here, fault-next, fault-none}
+use Rattle.reader.proofs.Walk.{until-here, until-next, until-none}
 use Rattle.reader.specs.Reader.{startOf, soundOf}
+use borrow.Author.Tests.{eq-eqb, ne-eqb}
+use lib.Dec.{eqb}
+use native.Mathlib.Nat.{zero-add}
 use native.Mathlib.Omega.{arith}
 use lib.ListN.{length, drop}
 use Prim.Native.Nat.{_-_, _+_}
@@ -27,7 +30,7 @@ read-requires : tie.Need-read-requires Inv-loop μ-loop
 read-requires c κs = tt
 
 returns : tie.Need-returns Inv-loop μ-loop
-returns c = sym (sym (none _) ∙ (c .before .before .before .before .before .before .loop .inv) ∙ fault-here _ _ _ (c .before .before .before .before .before .loop-test .taken) (c .before .before .before .read .ensures) (c .if1 .taken))
+returns c = sym (sym (zero-add _) ∙ (c .before .before .before .before .before .before .loop .inv) ∙ until-here _ _ _ _ (c .before .before .before .before .before .loop-test .taken) (ap (λ (x : Reader). eqb (x .draft .emit) 9) (sym (c .before .before .before .read .ensures)) ∙ eq-eqb _ _ (c .if1 .taken)))
 
 add-i : tie.Need-add-i Inv-loop μ-loop
 add-i c = omega arith
@@ -36,10 +39,10 @@ loop-less : tie.Need-loop-less Inv-loop μ-loop
 loop-less c = omega arith
 
 loop-again : tie.Need-loop-again Inv-loop μ-loop
-loop-again c = (c .before .before .before .before .before .before .loop .inv) ∙ fault-next _ _ _ (c .before .before .before .before .before .loop-test .taken) (c .before .before .before .read .ensures) (c .if1 .left)
+loop-again c = (c .before .before .before .before .before .before .loop .inv) ∙ until-next _ _ _ _ (c .before .before .before .before .before .loop-test .taken) (c .before .before .before .read .ensures) (ap (λ (x : Reader). eqb (x .draft .emit) 9) (sym (c .before .before .before .read .ensures)) ∙ ne-eqb _ _ (c .if1 .left))
 
 returns-2 : tie.Need-returns-2 Inv-loop μ-loop
-returns-2 c = sym (sym (none _) ∙ (c .before .loop .inv) ∙ fault-none _ _ _ (c .loop-test .left))
+returns-2 c = sym (sym (zero-add _) ∙ (c .before .loop .inv) ∙ until-none _ _ _ _ (c .loop-test .left))
 
 pub fault-spec : {M : Type 1} → statement M
 fault-spec =

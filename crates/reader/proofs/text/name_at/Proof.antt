@@ -1,6 +1,8 @@
 use Rattle.reader.specs.declared.reader.Reader.{Reader}
-use Rattle.reader.proofs.Walk.{none, name-here, name-next, name-none}
+use Rattle.reader.proofs.Walk.{until-here, until-next, until-none}
 use Rattle.reader.specs.Reader.{startOf, unnamedOf}
+use borrow.Author.Tests.{eq-eqb, ne-eqb}
+use native.Mathlib.Nat.{zero-add}
 use native.Mathlib.Omega.{arith}
 use lib.ListN.{length, drop}
 use Prim.Native.Nat.{_-_, _+_}
@@ -21,7 +23,7 @@ loop-holds : tie.Need-loop-holds Inv-loop μ-loop
 loop-holds c = ap (λ (x : Reader). 0 + unnamedOf x (c .before .before .args .text .now)) (sym (c .start .ensures))
 
 returns : tie.Need-returns Inv-loop μ-loop
-returns c = sym (sym (none _) ∙ (c .before .before .before .before .loop .inv) ∙ name-here _ _ _ (c .before .before .before .loop-test .taken) (c .if1 .taken))
+returns c = sym (sym (zero-add _) ∙ (c .before .before .before .before .loop .inv) ∙ until-here _ _ _ _ (c .before .before .before .loop-test .taken) (eq-eqb _ _ (c .if1 .taken)))
 
 shared-slice-read-c : tie.Need-shared-slice-read-c Inv-loop μ-loop
 shared-slice-read-c c = omega arith
@@ -36,10 +38,10 @@ loop-less : tie.Need-loop-less Inv-loop μ-loop
 loop-less c = omega arith
 
 loop-again : tie.Need-loop-again Inv-loop μ-loop
-loop-again c = (c .before .before .before .before .before .before .loop .inv) ∙ name-next _ _ _ (c .before .before .before .before .before .loop-test .taken) (c .read .ensures) (c .before .before .if1 .left)
+loop-again c = (c .before .before .before .before .before .before .loop .inv) ∙ until-next _ _ _ _ (c .before .before .before .before .before .loop-test .taken) (c .read .ensures) (ne-eqb _ _ (c .before .before .if1 .left))
 
 returns-2 : tie.Need-returns-2 Inv-loop μ-loop
-returns-2 c = sym (sym (none _) ∙ (c .before .loop .inv) ∙ name-none _ _ _ (c .loop-test .left))
+returns-2 c = sym (sym (zero-add _) ∙ (c .before .loop .inv) ∙ until-none _ _ _ _ (c .loop-test .left))
 
 pub name-at-spec : {M : Type 1} → statement M
 name-at-spec =

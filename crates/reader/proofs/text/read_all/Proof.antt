@@ -1,6 +1,6 @@
 use Rattle.reader.specs.declared.reader.Reader.{Reader}
-use Rattle.reader.proofs.Walk.{next, end}
-use Rattle.reader.specs.Reader.{startOf, reads}
+use Rattle.common.proofs.FoldLaws.{fold-next, fold-end}
+use Rattle.reader.specs.Reader.{startOf, readOf, reads}
 use native.Mathlib.Omega.{arith}
 use lib.ListN.{length, drop}
 use Prim.Native.Nat.{_-_}
@@ -33,10 +33,12 @@ loop-less : tie.Need-loop-less Inv-loop μ-loop
 loop-less c = omega arith
 
 loop-again : tie.Need-loop-again Inv-loop μ-loop
-loop-again c = (c .before .before .before .loop .inv) ∙ next _ _ _ (c .before .before .loop-test .taken) (c .read .ensures)
+unfolding reads
+loop-again c = (c .before .before .before .loop .inv) ∙ fold-next readOf _ _ 0 (c .before .before .loop-test .taken) (c .read .ensures)
 
 returns : tie.Need-returns Inv-loop μ-loop
-returns c = sym ((c .before .loop .inv) ∙ end _ _ _ (c .loop-test .left))
+unfolding reads
+returns c = sym ((c .before .loop .inv) ∙ fold-end readOf _ _ (c .loop-test .left))
 
 pub read-all-spec : {M : Type 1} → statement M
 read-all-spec =

@@ -1,6 +1,6 @@
 -- Bytes put one after the other, and what then stands in the buffer.
 use Prim.Native.Nat.{ℕ, suc, _+_, _-_, _≤_, _<_}
-use mathlib.Core.List.{List, [], _∷_, _++_, append-assoc, append-nil, foldl-append}
+use mathlib.Core.List.{List, [], _∷_, _++_, append-assoc, append-nil, flatMap, foldl-append}
 use mathlib.Core.Path.{_≡_, refl, sym, ap, subst, _∙_}
 use native.Mathlib.Numerals.{add-one}
 use native.Mathlib.Omega.{arith}
@@ -8,7 +8,6 @@ use lib.ListN.{length, take, drop, set, getD, replicate, length-set, drop-of-len
 use lib.Seq.{drop-cons, take-suc-set}
 use borrow.Author.Tests.{lt-ltb, le-ltb}
 use Rattle.append.specs.Sheet.{Sheet, sheet, push, puts, shownOf}
-use Rattle.append.specs.Number.{hexByte, hexes}
 use Rattle.append.specs.Texts.{each}
 
 -- no byte
@@ -44,17 +43,15 @@ pub again-end : (s : Sheet) (c n i : ℕ) → n ≤ i → puts s (replicate (n -
 unfolding puts
 again-end s c n i h = let m : n - i ≡ 0 = omega arith in rw m
 
--- the bytes of a list in base 16
-pub hexes-next : (s : Sheet) {t u : Sheet} (w l : List ℕ) (i : ℕ) → i < length l → t ≡ puts s w → u ≡ puts t (hexByte (getD l i 0))
-    → puts s (hexes w (drop i l)) ≡ puts u (hexes w (drop (i + 1) l))
-unfolding hexes
-hexes-next s w l i h p q =
-    rw (add-one, drop-cons l i 0 h)
-    (first s w (hexByte (getD l i 0) ++ hexes w (drop (suc i) l)) p ∙ first _ (hexByte (getD l i 0)) (hexes w (drop (suc i) l)) q)
+-- a text for each byte of a list
+module _ (s : Sheet) (g : ℕ → List ℕ) (l : List ℕ) (i : ℕ) where
+  pub bytes-next : {t : Sheet} → i < length l → t ≡ puts s (g (getD l i 0)) → puts s (flatMap g (drop i l)) ≡ puts t (flatMap g (drop (i + 1) l))
+  unfolding flatMap
+  bytes-next h e = rw (add-one, drop-cons l i 0 h) (first s (g (getD l i 0)) (flatMap g (drop (suc i) l)) e)
 
-pub hexes-end : (s : Sheet) (w l : List ℕ) (i : ℕ) → length l ≤ i → puts s (hexes w (drop i l)) ≡ s
-unfolding hexes puts
-hexes-end s w l i h = rw (drop-of-length-le l h)
+  pub bytes-end : length l ≤ i → puts s (flatMap g (drop i l)) ≡ s
+  unfolding flatMap puts
+  bytes-end h = rw (drop-of-length-le l h)
 
 -- texts by their numbers, up to n
 module _ (s : Sheet) (f : ℕ → List ℕ) (n : ℕ) where

@@ -1,6 +1,6 @@
 -- Numbers as text, in characters' ASCII codes: in decimal for the lines of document 01, in base 16 for addresses and bytes (docs/BENCH.md).
 use Prim.Native.Nat.{ℕ, zero, suc, _+_, _-_, _/_, _%_}
-use mathlib.Core.List.{List, [], _∷_, _++_}
+use mathlib.Core.List.{List, [], _∷_, _++_, flatMap}
 use lib.Dec.{ltb}
 use lib.ListN.{length, replicate}
 use Rattle.common.specs.Pick.{pick}
@@ -31,6 +31,5 @@ abbrev pub hexWord : ℕ → List ℕ
 hexWord x = hexByte (x / 256) ++ hexByte (x % 256)
 
 -- bytes, each behind w
-unfoldable pub hexes : List ℕ → List ℕ → List ℕ
-hexes w [] = []
-hexes w (x ∷ l) = w ++ (hexByte x ++ hexes w l)
+abbrev pub hexes : List ℕ → List ℕ → List ℕ
+hexes w = flatMap (λ x. w ++ hexByte x)

@@ -1,7 +1,7 @@
 -- A line of bytes of a fill or a ROM: each comes back, and adds itself.
 use Prim.Native.Nat.{ℕ, _/_, _%_, _≤_, _<_}
 use mathlib.Core.Bool.{Bool, true, false}
-use mathlib.Core.List.{List, [], _∷_, _++_, foldl-append}
+use mathlib.Core.List.{List, [], _∷_, _++_, foldl-append, flatMap}
 use mathlib.Core.Path.{_≡_, refl, ap, _∙_}
 use native.Mathlib.Omega.{arith}
 use borrow.Author.Tests.{le-leb}
@@ -13,7 +13,7 @@ use Rattle.reader.specs.Word.{word, blankWord, dollarOf, worthOf}
 use Rattle.reader.specs.Draft.{draft}
 use Rattle.reader.specs.Line.{fitsOf, numberOf, takenOf, closingOf, lineOf}
 use Rattle.reader.specs.Reader.{reader, shutOf, spacedOf, plainOf, stepOf, readOf}
-use Rattle.append.specs.Number.{glyphOf, hexes}
+use Rattle.append.specs.Number.{glyphOf}
 use Rattle.lister.specs.Body.{bytesText, fillWord, romWord}
 use Rattle.assembler.specs.Desk.{State, frontOf, romOf, scriptOf, stepped, runs, made, added}
 use Rattle.bothways.proofs.Quietly.{quietly, quietly-runs, one}
@@ -174,7 +174,7 @@ lastOf x (z ∷ l) = lastOf z l
 -- the bytes behind x, and the line's end
 pub bytes-run : (file : List ℕ) (b : Section) (i : Bool) (f o s : Sheet) (x y : ℕ) (l : List ℕ) → Bytes (x ∷ l)
     → runs file (made (byteRead b i x y) f o s) (bytesText l ++ (10 ∷ [])) ≡ gained b (lineRead b (lastOf x l)) f o s (x ∷ l)
-unfolding hexes runs
+unfolding flatMap runs
 bytes-run file b i f o s x y [] h =
     one file f o s (byteRead b i x y) 10 ∙ ap (added file f o s) (end x y (h .0) b i) ∙ gain-line file b f o s x
 bytes-run file b i f o s x y (z ∷ l) h =

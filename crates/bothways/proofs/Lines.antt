@@ -1,7 +1,7 @@
 -- The lines of a fill or a ROM add its bytes, those of a script its rows.
 use Prim.Native.Nat.{ℕ, zero, suc, _+_, _*_, _/_, _%_, _<_}
 use mathlib.Core.Bool.{true, false}
-use mathlib.Core.List.{List, [], _∷_, _++_, append-assoc, append-nil, foldl-append}
+use mathlib.Core.List.{List, [], _∷_, _++_, append-assoc, append-nil, foldl-append, flatMap}
 use mathlib.Core.Path.{_≡_, refl, sym, ap, subst, _∙_}
 use native.Mathlib.Omega.{arith}
 use lib.ListN.{length, take, drop}
@@ -20,7 +20,7 @@ use Rattle.reader.specs.Word.{word, letterOf, dollarOf, worthOf}
 use Rattle.reader.specs.Draft.{draft, mayOf, keywordOf}
 use Rattle.reader.specs.Line.{namedOf, takenOf}
 use Rattle.reader.specs.Reader.{reader, shutOf, spacedOf, plainOf, stepOf, readOf}
-use Rattle.append.specs.Number.{glyphOf, hexes}
+use Rattle.append.specs.Number.{glyphOf}
 use Rattle.lister.specs.Body.{bytesText, lineText, linesFrom, linesText}
 use Rattle.lister.specs.Row.{rowText}
 use Rattle.lister.specs.List.{rowsText, scriptText}
@@ -95,7 +95,7 @@ module _ (file : List ℕ) (b : Section) (f o s : Sheet) where
         ∙ nothing file b (puts f (toFront b a)) (puts o (toRom b a)) s z 0 true
 
     ran : runs file k (lineText (wordOf b) (z ∷ l)) ≡ gained b (lineRead b (lastOf z l)) (puts f (toFront b a)) (puts o (toRom b a)) s (z ∷ l)
-    unfolding lineText hexes runs
+    unfolding lineText flatMap runs
     ran =
         ap (λ (x : State). runs file x (wordOf b ++ (32 ∷ 36 ∷ glyphOf (z / 16) ∷ glyphOf z ∷ (bytesText l ++ (10 ∷ []))))) (r .is)
         ∙ ap (runs file was) (parted b z (bytesText l ++ (10 ∷ [])))

@@ -1,7 +1,7 @@
 -- No line that list writes has a file name.
 use Prim.Native.Nat.{ℕ, zero, suc, _+_, _*_, _/_, _%_, _<_}
 use mathlib.Core.Bool.{Bool, true, false}
-use mathlib.Core.List.{List, [], _∷_, _++_}
+use mathlib.Core.List.{List, [], _∷_, _++_, flatMap}
 use mathlib.Core.Path.{_≡_, refl, sym, ap, subst, _∙_}
 use native.Mathlib.Omega.{arith}
 use lib.ListN.{length}
@@ -15,7 +15,7 @@ use Rattle.benchfile.proofs.Parts.{part-bytes}
 use Rattle.benchfile.proofs.Rows.{script}
 use Rattle.reader.specs.declared.reader.Reader.{Reader}
 use Rattle.reader.specs.Reader.{startOf, readOf, reads}
-use Rattle.append.specs.Number.{glyphOf, hexes}
+use Rattle.append.specs.Number.{glyphOf}
 use Rattle.lister.specs.Body.{bytesText, lineText, linesFrom, linesText}
 use Rattle.lister.specs.Row.{rowText}
 use Rattle.lister.specs.List.{settingsText, rowsText, scriptText}
@@ -34,7 +34,7 @@ settings-nameless n h = quietly-unnamed (before 1 8 (n % 256) (n / 256) 0 0 2) r
 
 -- the bytes behind x
 bytes-nameless : (b : Section) (i : Bool) (x y : ℕ) (l : List ℕ) → Bytes (x ∷ l) → Unnamed (byteRead b i x y) (bytesText l ++ (10 ∷ []))
-unfolding hexes
+unfolding flatMap
 bytes-nameless b i x y [] h = unnamed-next (byteRead b i x y) 10 [] refl (unnamed-none (readOf (byteRead b i x y) 10))
 bytes-nameless b i x y (z ∷ l) h =
     let t : List ℕ = bytesText l ++ (10 ∷ []) in
@@ -53,7 +53,7 @@ bytes-nameless b i x y (z ∷ l) h =
 module _ (file : List ℕ) (b : Section) (f o s : Sheet) where
   -- a line of bytes
   line-nameless : (a p : List ℕ) (k : State) → Holds file b f o s a k → Bytes p → Unnamed (k .reader) (lineText (wordOf b) p)
-  unfolding lineText hexes
+  unfolding lineText flatMap
   line-nameless a [] k r small = unnamed-none (k .reader)
   line-nameless a (z ∷ l) k r small =
       let t : List ℕ = bytesText l ++ (10 ∷ []) in

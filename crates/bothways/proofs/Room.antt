@@ -1,6 +1,6 @@
 -- How long the text of a file can be: the buffers of the programs have room for it.
 use Prim.Native.Nat.{ℕ, zero, suc, _+_, _*_, _/_, _≤_, _<_}
-use mathlib.Core.List.{List, [], _∷_, _++_}
+use mathlib.Core.List.{List, [], _∷_, _++_, flatMap}
 use mathlib.Core.Path.{_≡_, refl}
 use native.Mathlib.Omega.{arith}
 use lib.Dec.{eqb}
@@ -16,7 +16,7 @@ use Rattle.fields.specs.Little.{field}
 use Rattle.benchfile.specs.Row.{rowBytes}
 use Rattle.benchfile.proofs.Parts.{part-bytes}
 use Rattle.append.proofs.Decimal.{short}
-use Rattle.append.specs.Number.{decimal, hexes}
+use Rattle.append.specs.Number.{decimal}
 use Rattle.lister.specs.Body.{bytesText, lineText, linesFrom, linesText}
 use Rattle.lister.specs.Row.{eventText, flagsText, cyclesText, padText, plugText, backText, lineWord, timerWord, onWord, offWord, texts, rowText}
 use Rattle.lister.specs.List.{rowsText, scriptText, settingsText}
@@ -84,7 +84,7 @@ unfolding scriptText
 script-short s h = rows-short s h (length s / 8) 0
 
 bytes-length : (l : List ℕ) → length (bytesText l) ≡ 4 * length l
-unfolding hexes
+unfolding flatMap
 bytes-length [] = refl
 bytes-length (x ∷ l) = simp length-append (omega (arith, bytes-length l))
 

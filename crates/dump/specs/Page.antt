@@ -1,6 +1,6 @@
 -- A page of work RAM (document 01, page look) as a hex dump (docs/BENCH.md), in characters' ASCII codes.
 use Prim.Native.Nat.{ℕ, _+_, _*_, _/_, _%_}
-use mathlib.Core.List.{List, [], _∷_, _++_}
+use mathlib.Core.List.{List, [], _∷_, _++_, flatMap}
 use Rattle.common.specs.Pick.{pick}
 use Rattle.common.specs.Range.{within}
 use Rattle.fields.specs.Bytes.{partOf}
@@ -20,9 +20,8 @@ abbrev pub bytesText : List ℕ → List ℕ
 bytesText = hexes (32 ∷ [])
 
 -- bytes as characters
-unfoldable pub signsText : List ℕ → List ℕ
-signsText [] = []
-signsText (x ∷ l) = asciiOf x ∷ signsText l
+abbrev pub signsText : List ℕ → List ℕ
+signsText = flatMap (λ x. asciiOf x ∷ [])
 
 -- the place, eight bytes, a gap, eight bytes, and all of them as characters between bars
 unfoldable pub lineText : ℕ → ℕ → List ℕ → List ℕ

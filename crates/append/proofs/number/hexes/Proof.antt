@@ -1,4 +1,4 @@
-use Rattle.append.proofs.Laws.{hexes-next, hexes-end}
+use Rattle.append.proofs.Laws.{then, bytes-next, bytes-end}
 use Rattle.append.specs.Sheet.{sheet, puts}
 use Rattle.append.specs.Number.{hexes}
 use native.Mathlib.Omega.{arith}
@@ -34,13 +34,13 @@ loop-less : tie.Need-loop-less Inv-loop μ-loop
 loop-less c = omega arith
 
 loop-again : tie.Need-loop-again Inv-loop μ-loop
-loop-again c = ((c .before .before .hex-byte .kept .0) ∙ (c .before .before .before .before .before .before .before .put .kept .0) ∙ (c .before .before .before .before .before .before .before .before .before .before .loop .inv .0), (c .before .before .before .before .before .before .before .before .before .before .loop .inv .1) ∙ hexes-next _ _ _ _ (c .before .before .before .before .before .before .before .before .before .loop-test .taken) (c .before .before .before .before .before .before .before .put .ensures) (c .before .before .hex-byte .ensures))
+loop-again c = ((c .before .before .hex-byte .kept .0) ∙ (c .before .before .before .before .before .before .before .put .kept .0) ∙ (c .before .before .before .before .before .before .before .before .before .before .loop .inv .0), (c .before .before .before .before .before .before .before .before .before .before .loop .inv .1) ∙ bytes-next _ _ _ _ (c .before .before .before .before .before .before .before .before .before .loop-test .taken) (then _ _ _ (c .before .before .before .before .before .before .before .put .ensures) (c .before .before .hex-byte .ensures)))
 
 same-length : tie.Need-same-length Inv-loop μ-loop
 same-length c = (c .before .loop .inv .0)
 
 returns : tie.Need-returns Inv-loop μ-loop
-returns c = sym ((c .before .loop .inv .1) ∙ hexes-end _ _ _ _ (c .loop-test .left))
+returns c = sym ((c .before .loop .inv .1) ∙ bytes-end _ _ _ _ (c .loop-test .left))
 
 pub hexes-spec : {M : Type 1} → statement M
 hexes-spec =

@@ -1,10 +1,10 @@
-use mathlib.Core.Path.{_≡_, refl, sym, _∙_}
+use mathlib.Core.Path.{_≡_, refl, sym, ap, _∙_}
 use Prim.Native.Nat.{_-_}
 use lib.ListN.{length, drop}
 use native.Mathlib.Omega.{arith}
-use Rattle.append.specs.Sheet.{sheet, puts}
+use Rattle.append.specs.Sheet.{sheet, push, puts}
+use Rattle.append.proofs.Laws.{last, bytes-next, bytes-end}
 use Rattle.dump.specs.Page.{signsText}
-use Rattle.dump.proofs.Signs.{signs-next, signs-end}
 use Rattle.dump.proofs.page.signs.Statement.{statement}
 use Rattle.dump.proofs.page.signs.Tie as tie
 
@@ -34,13 +34,13 @@ loop-less : tie.Need-loop-less Inv-loop μ-loop
 loop-less c = omega arith
 
 loop-again : tie.Need-loop-again Inv-loop μ-loop
-loop-again c = ((c .before .before .push-byte .kept .0) ∙ (c .before .before .before .before .before .before .before .loop .inv .0), (c .before .before .before .before .before .before .before .loop .inv .1) ∙ signs-next _ _ _ (c .before .before .before .before .before .before .loop-test .taken) (c .before .before .before .before .ascii .ensures) (c .before .before .push-byte .ensures))
+loop-again c = ((c .before .before .push-byte .kept .0) ∙ (c .before .before .before .before .before .before .before .loop .inv .0), (c .before .before .before .before .before .before .before .loop .inv .1) ∙ bytes-next _ _ _ _ (c .before .before .before .before .before .before .loop-test .taken) (last _ _ ((c .before .before .push-byte .ensures) ∙ ap (push _) (c .before .before .before .before .ascii .ensures))))
 
 same-length : tie.Need-same-length Inv-loop μ-loop
 same-length c = (c .before .loop .inv .0)
 
 returns : tie.Need-returns Inv-loop μ-loop
-returns c = sym ((c .before .loop .inv .1) ∙ signs-end _ _ _ (c .loop-test .left))
+returns c = sym ((c .before .loop .inv .1) ∙ bytes-end _ _ _ _ (c .loop-test .left))
 
 pub signs-spec : {M : Type 1} → statement M
 signs-spec =

@@ -11,7 +11,7 @@ use Rattle.reader.specs.declared.reader.Reader.{Reader}
 use Rattle.reader.specs.Letter.{signOf}
 use Rattle.reader.specs.Word.{word, blankWord, dollarOf, worthOf}
 use Rattle.reader.specs.Draft.{draft}
-use Rattle.reader.specs.Line.{fitsOf, numberOf, takenOf, closingOf, lineOf}
+use Rattle.reader.specs.Line.{numberOf, takenOf, closingOf, lineOf}
 use Rattle.reader.specs.Reader.{reader, shutOf, spacedOf, plainOf, stepOf, readOf}
 use Rattle.append.specs.Number.{glyphOf}
 use Rattle.lister.specs.Body.{bytesText, fillWord, romWord}
@@ -95,14 +95,14 @@ module _ (x y : ℕ) (lx : x < 256) where
   same = omega arith
 
   pub space : (b : Section) (i : Bool) → readOf (byteRead b i x y) 32 ≡ spacedRead b x
-  unfolding readOf stepOf signOf spacedOf shutOf takenOf numberOf fitsOf worthOf
+  unfolding readOf stepOf signOf spacedOf shutOf takenOf numberOf worthOf
   space fill true = rw (le-leb 0 x least, le-leb x 255 most, same)
   space fill false = rw (le-leb 0 x least, le-leb x 255 most, same)
   space rom true = rw (le-leb 0 x least, le-leb x 255 most, same)
   space rom false = rw (le-leb 0 x least, le-leb x 255 most, same)
 
   end : (b : Section) (i : Bool) → readOf (byteRead b i x y) 10 ≡ lineRead b x
-  unfolding readOf stepOf signOf shutOf takenOf numberOf fitsOf worthOf lineOf closingOf
+  unfolding readOf stepOf signOf shutOf takenOf numberOf worthOf lineOf closingOf
   end fill true = rw (le-leb 0 x least, le-leb x 255 most, same)
   end fill false = rw (le-leb 0 x least, le-leb x 255 most, same)
   end rom true = rw (le-leb 0 x least, le-leb x 255 most, same)

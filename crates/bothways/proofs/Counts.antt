@@ -8,8 +8,8 @@ use borrow.Author.Tests.{le-leb}
 use Rattle.reader.specs.declared.reader.Reader.{Reader}
 use Rattle.reader.specs.Letter.{signOf, digitOf}
 use Rattle.reader.specs.Word.{word, letterOf, dollarOf, worthOf}
-use Rattle.reader.specs.Draft.{draft, mayOf, keywordOf, switchOf}
-use Rattle.reader.specs.Line.{fitsOf, numberOf, namedOf, takenOf, closingOf, lineOf}
+use Rattle.reader.specs.Draft.{draft, keywordOf, switchOf}
+use Rattle.reader.specs.Line.{numberOf, namedOf, takenOf, closingOf, lineOf}
 use Rattle.reader.specs.Reader.{reader, shutOf, spacedOf, plainOf, stepOf, readOf}
 use Rattle.bothways.proofs.Quietly.{quietly}
 use Rattle.append.specs.Number.{glyphOf, decimal}
@@ -21,28 +21,28 @@ use Rattle.bothways.proofs.Rows.{Open, fill, rom, rows, before, at}
 module _ (k x₁ x₂ x₃ x₄ : ℕ) (t : List ℕ) where
   -- `back `
   back-word : (p : ℕ) → Open p → quietly (before p k x₁ x₂ x₃ x₄ 0) (98 ∷ 97 ∷ 99 ∷ 107 ∷ 32 ∷ t) ≡ quietly (at 15 7 0 0 0 0) t
-  unfolding quietly readOf stepOf plainOf letterOf signOf digitOf spacedOf shutOf takenOf namedOf keywordOf mayOf worthOf
+  unfolding quietly readOf stepOf plainOf letterOf signOf digitOf spacedOf shutOf takenOf namedOf keywordOf worthOf
   back-word p fill = refl
   back-word p rom = refl
   back-word p rows = refl
 
   -- `pad `
   pad-word : (p : ℕ) → Open p → quietly (before p k x₁ x₂ x₃ x₄ 0) (112 ∷ 97 ∷ 100 ∷ 32 ∷ t) ≡ quietly (at 6 4 0 0 0 0) t
-  unfolding quietly readOf stepOf plainOf letterOf signOf digitOf spacedOf shutOf takenOf namedOf keywordOf mayOf worthOf
+  unfolding quietly readOf stepOf plainOf letterOf signOf digitOf spacedOf shutOf takenOf namedOf keywordOf worthOf
   pad-word p fill = refl
   pad-word p rom = refl
   pad-word p rows = refl
 
   -- `plug `
   plug-word : (p : ℕ) → Open p → quietly (before p k x₁ x₂ x₃ x₄ 0) (112 ∷ 108 ∷ 117 ∷ 103 ∷ 32 ∷ t) ≡ quietly (at 17 5 0 0 0 0) t
-  unfolding quietly readOf stepOf plainOf letterOf signOf digitOf spacedOf shutOf takenOf namedOf keywordOf mayOf worthOf
+  unfolding quietly readOf stepOf plainOf letterOf signOf digitOf spacedOf shutOf takenOf namedOf keywordOf worthOf
   plug-word p fill = refl
   plug-word p rom = refl
   plug-word p rows = refl
 
 -- the end of a back row
 back-end : (n : ℕ) → 1 ≤ n → n < 65536 → quietly (reader (word 6 n 0) (draft 4 15 7 0 0 0 0 0)) (10 ∷ []) ≡ before 4 7 (n % 256) (n / 256) 0 0 3
-unfolding quietly readOf stepOf signOf shutOf takenOf numberOf fitsOf worthOf lineOf closingOf
+unfolding quietly readOf stepOf signOf shutOf takenOf numberOf worthOf lineOf closingOf
 back-end n f l =
     let m : n ≤ 65535 = omega arith in
     let q : n / 256 % 256 ≡ n / 256 = omega arith in
@@ -69,7 +69,7 @@ onOff false = 111 ∷ 102 ∷ 102 ∷ 10 ∷ []
 module _ (n : ℕ) (l : n < 256) where
   -- the port of a pad row
   pad-space : readOf (reader (word 6 n 0) (draft 4 6 4 0 0 0 0 0)) 32 ≡ at 7 4 n 0 0 0
-  unfolding readOf stepOf signOf spacedOf shutOf takenOf numberOf fitsOf worthOf
+  unfolding readOf stepOf signOf spacedOf shutOf takenOf numberOf worthOf
   pad-space =
       let z : 0 ≤ n = omega arith in
       let m : n ≤ 255 = omega arith in
@@ -86,7 +86,7 @@ module _ (n : ℕ) (l : n < 256) where
 
   -- the word of a pad row
   pad-end : (a h : ℕ) → a < 256 → h < 256 → quietly (reader (word 3 (h * 256 + a) 0) (draft 4 7 4 n 0 0 0 0)) (10 ∷ []) ≡ before 4 4 n a h 0 3
-  unfolding quietly readOf stepOf signOf shutOf takenOf numberOf fitsOf worthOf lineOf closingOf
+  unfolding quietly readOf stepOf signOf shutOf takenOf numberOf worthOf lineOf closingOf
   pad-end a h la lh =
       let z : 0 ≤ h * 256 + a = omega arith in
       let m : h * 256 + a ≤ 65535 = omega arith in
@@ -109,7 +109,7 @@ module _ (n : ℕ) (l : n < 256) where
 
   -- the port of a plug row
   plug-space : readOf (reader (word 6 n 0) (draft 4 17 5 0 0 0 0 0)) 32 ≡ at 9 5 n 0 0 0
-  unfolding readOf stepOf signOf spacedOf shutOf takenOf numberOf fitsOf worthOf
+  unfolding readOf stepOf signOf spacedOf shutOf takenOf numberOf worthOf
   plug-space =
       let z : 0 ≤ n = omega arith in
       let m : n ≤ 255 = omega arith in

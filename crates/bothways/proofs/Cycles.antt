@@ -10,8 +10,8 @@ use Rattle.common.specs.Pick.{pick}
 use Rattle.reader.specs.declared.reader.Reader.{Reader}
 use Rattle.reader.specs.Letter.{signOf, digitOf}
 use Rattle.reader.specs.Word.{word, letterOf, worthOf}
-use Rattle.reader.specs.Draft.{draft, mayOf, keywordOf, optionOf}
-use Rattle.reader.specs.Line.{fitsOf, numberOf, namedOf, takenOf, closingOf, lineOf}
+use Rattle.reader.specs.Draft.{draft, keywordOf, optionOf}
+use Rattle.reader.specs.Line.{numberOf, namedOf, takenOf, closingOf, lineOf}
 use Rattle.reader.specs.Reader.{reader, shutOf, spacedOf, plainOf, stepOf, readOf}
 use Rattle.bothways.proofs.Quietly.{calm, quietly}
 use Rattle.append.specs.Number.{decimal}
@@ -29,7 +29,7 @@ pub data Flags : ℕ → Type 0 where
 module _ (k x₁ x₂ x₃ x₄ : ℕ) (t : List ℕ) where
   -- `cycles `
   cycles-word : (p : ℕ) → Open p → quietly (before p k x₁ x₂ x₃ x₄ 0) (99 ∷ 121 ∷ 99 ∷ 108 ∷ 101 ∷ 115 ∷ 32 ∷ t) ≡ quietly (at 1 1 0 0 0 0) t
-  unfolding quietly readOf stepOf plainOf letterOf signOf digitOf spacedOf shutOf takenOf namedOf keywordOf mayOf worthOf
+  unfolding quietly readOf stepOf plainOf letterOf signOf digitOf spacedOf shutOf takenOf namedOf keywordOf worthOf
   cycles-word p fill = refl
   cycles-word p rom = refl
   cycles-word p rows = refl
@@ -62,14 +62,14 @@ module _ (n : ℕ) (f1 : 1 ≤ n) (ln : n < 65536) where
   counted = reader (word 6 n 0) (draft 4 1 1 0 0 0 0 0)
 
   count-space : readOf counted 32 ≡ at 2 1 (n % 256) (n / 256) 0 0
-  unfolding readOf stepOf signOf spacedOf shutOf takenOf numberOf fitsOf worthOf
+  unfolding readOf stepOf signOf spacedOf shutOf takenOf numberOf worthOf
   count-space =
       let m : n ≤ 65535 = omega arith in
       let q : n / 256 % 256 ≡ n / 256 = omega arith in
       rw (le-leb 1 n f1, le-leb n 65535 m, q)
 
   count-end : readOf counted 10 ≡ before 4 1 (n % 256) (n / 256) 0 0 3
-  unfolding readOf stepOf signOf shutOf takenOf numberOf fitsOf worthOf lineOf closingOf
+  unfolding readOf stepOf signOf shutOf takenOf numberOf worthOf lineOf closingOf
   count-end =
       let m : n ≤ 65535 = omega arith in
       let q : n / 256 % 256 ≡ n / 256 = omega arith in
@@ -81,7 +81,7 @@ module _ (l h v : ℕ) (lv : v < 256) where
   timed = reader (word 6 v 0) (draft 4 3 1 l h 0 0 0)
 
   event-space : readOf timed 32 ≡ at 2 1 l h v 0
-  unfolding readOf stepOf signOf spacedOf shutOf takenOf numberOf fitsOf worthOf
+  unfolding readOf stepOf signOf spacedOf shutOf takenOf numberOf worthOf
   event-space =
       let z : 0 ≤ v = omega arith in
       let m : v ≤ 255 = omega arith in
@@ -89,7 +89,7 @@ module _ (l h v : ℕ) (lv : v < 256) where
       rw (le-leb 0 v z, le-leb v 255 m, q)
 
   event-end : readOf timed 10 ≡ before 4 1 l h v 0 3
-  unfolding readOf stepOf signOf shutOf takenOf numberOf fitsOf worthOf lineOf closingOf
+  unfolding readOf stepOf signOf shutOf takenOf numberOf worthOf lineOf closingOf
   event-end =
       let z : 0 ≤ v = omega arith in
       let m : v ≤ 255 = omega arith in

@@ -17,7 +17,7 @@ use Rattle.benchfile.proofs.Parts.{part-bytes}
 use Rattle.benchfile.proofs.Rows.{script}
 use Rattle.reader.specs.Letter.{signOf, digitOf}
 use Rattle.reader.specs.Word.{word, letterOf, dollarOf, worthOf}
-use Rattle.reader.specs.Draft.{draft, mayOf, keywordOf}
+use Rattle.reader.specs.Draft.{draft, keywordOf}
 use Rattle.reader.specs.Line.{namedOf, takenOf}
 use Rattle.reader.specs.Reader.{reader, shutOf, spacedOf, plainOf, stepOf, readOf}
 use Rattle.append.specs.Number.{glyphOf}
@@ -44,7 +44,7 @@ module _ (k x₁ x₂ x₃ x₄ : ℕ) (z : ℕ) (lz : z < 256) where
 
   word-dollar : (b : Section) (a t : List ℕ)
       → quietly (before (phaseOf b a) k x₁ x₂ x₃ x₄ 0) (wordOf b ++ (32 ∷ 36 ∷ t)) ≡ quietly (reader (word 2 0 0) (draft (late b) (firstOf b) (kindOf b) 0 0 0 0 0)) t
-  unfolding quietly readOf stepOf plainOf letterOf signOf digitOf dollarOf spacedOf shutOf takenOf namedOf keywordOf mayOf worthOf
+  unfolding quietly readOf stepOf plainOf letterOf signOf digitOf dollarOf spacedOf shutOf takenOf namedOf keywordOf worthOf
   word-dollar fill [] t = refl
   word-dollar fill (x ∷ a) t = refl
   word-dollar rom [] t = refl

@@ -8,8 +8,8 @@ use borrow.Author.Tests.{le-leb}
 use Rattle.reader.specs.declared.reader.Reader.{Reader}
 use Rattle.reader.specs.Letter.{signOf, digitOf}
 use Rattle.reader.specs.Word.{word, blankWord, letterOf, dollarOf, colonOf, worthOf}
-use Rattle.reader.specs.Draft.{draft, mayOf, keywordOf}
-use Rattle.reader.specs.Line.{fitsOf, numberOf, namedOf, takenOf, closingOf, lineOf}
+use Rattle.reader.specs.Draft.{draft, keywordOf}
+use Rattle.reader.specs.Line.{numberOf, namedOf, takenOf, closingOf, lineOf}
 use Rattle.reader.specs.Reader.{reader, shutOf, spacedOf, plainOf, stepOf, readOf}
 use Rattle.bothways.proofs.Quietly.{calm, quietly}
 use Rattle.append.specs.Number.{glyphOf}
@@ -38,21 +38,21 @@ at s k x₁ x₂ x₃ x₄ = reader (blankWord 0) (draft 4 s k x₁ x₂ x₃ x�
 module _ (k x₁ x₂ x₃ x₄ : ℕ) (t : List ℕ) where
   -- `read `
   read-word : (p : ℕ) → Open p → quietly (before p k x₁ x₂ x₃ x₄ 0) (114 ∷ 101 ∷ 97 ∷ 100 ∷ 32 ∷ t) ≡ quietly (at 4 2 0 0 0 0) t
-  unfolding quietly readOf stepOf plainOf letterOf signOf digitOf spacedOf shutOf takenOf namedOf keywordOf mayOf worthOf
+  unfolding quietly readOf stepOf plainOf letterOf signOf digitOf spacedOf shutOf takenOf namedOf keywordOf worthOf
   read-word p fill = refl
   read-word p rom = refl
   read-word p rows = refl
 
   -- `write `
   write-word : (p : ℕ) → Open p → quietly (before p k x₁ x₂ x₃ x₄ 0) (119 ∷ 114 ∷ 105 ∷ 116 ∷ 101 ∷ 32 ∷ t) ≡ quietly (at 16 3 0 0 0 0) t
-  unfolding quietly readOf stepOf plainOf letterOf signOf digitOf spacedOf shutOf takenOf namedOf keywordOf mayOf worthOf
+  unfolding quietly readOf stepOf plainOf letterOf signOf digitOf spacedOf shutOf takenOf namedOf keywordOf worthOf
   write-word p fill = refl
   write-word p rom = refl
   write-word p rows = refl
 
   -- `answer `
   answer-word : (p : ℕ) → Open p → quietly (before p k x₁ x₂ x₃ x₄ 0) (97 ∷ 110 ∷ 115 ∷ 119 ∷ 101 ∷ 114 ∷ 32 ∷ t) ≡ quietly (at 8 6 0 0 0 0) t
-  unfolding quietly readOf stepOf plainOf letterOf signOf digitOf spacedOf shutOf takenOf namedOf keywordOf mayOf worthOf
+  unfolding quietly readOf stepOf plainOf letterOf signOf digitOf spacedOf shutOf takenOf namedOf keywordOf worthOf
   answer-word p fill = refl
   answer-word p rom = refl
   answer-word p rows = refl
@@ -92,7 +92,7 @@ module _ (b l h : ℕ) (lb : b < 256) (ll : l < 256) (lh : h < 256) where
 
   -- the end of a read row
   read-end : quietly (reader (word 5 (h * 256 + l) b) (draft 4 4 2 0 0 0 0 0)) (10 ∷ []) ≡ before 4 2 b l h 0 3
-  unfolding quietly readOf stepOf signOf shutOf takenOf numberOf fitsOf worthOf lineOf closingOf
+  unfolding quietly readOf stepOf signOf shutOf takenOf numberOf worthOf lineOf closingOf
   read-end =
       let f : b ≤ 255 = omega arith in
       let g : h * 256 + l ≤ 65535 = omega arith in
@@ -111,7 +111,7 @@ module _ (b l h : ℕ) (lb : b < 256) (ll : l < 256) (lh : h < 256) where
 
   -- the address of a write row
   write-space : readOf (reader (word 5 (h * 256 + l) b) (draft 4 16 3 0 0 0 0 0)) 32 ≡ reader (blankWord 0) (draft 4 5 3 b l h 0 0)
-  unfolding readOf stepOf signOf spacedOf shutOf takenOf numberOf fitsOf worthOf
+  unfolding readOf stepOf signOf spacedOf shutOf takenOf numberOf worthOf
   write-space =
       let f : b ≤ 255 = omega arith in
       let g : h * 256 + l ≤ 65535 = omega arith in
@@ -125,7 +125,7 @@ module _ (b l h : ℕ) (lb : b < 256) (ll : l < 256) (lh : h < 256) where
 
   -- the byte of a write row or an answer row, and the line's end
   byte-end : (kind first x : ℕ) → Row kind → x < 256 → quietly (reader (word 3 x 0) (draft 4 5 kind first l h 0 0)) (10 ∷ []) ≡ before 4 kind first l h x 3
-  unfolding quietly readOf stepOf signOf shutOf takenOf numberOf fitsOf worthOf lineOf closingOf
+  unfolding quietly readOf stepOf signOf shutOf takenOf numberOf worthOf lineOf closingOf
   byte-end kind first x write lx =
       let z : 0 ≤ x = omega arith in
       let m : x ≤ 255 = omega arith in
@@ -150,7 +150,7 @@ module _ (b l h : ℕ) (lb : b < 256) (ll : l < 256) (lh : h < 256) where
       ∙ byte-end 3 b x write lx
 
   answer-space : readOf (reader (word 3 (h * 256 + l) 0) (draft 4 8 6 0 0 0 0 0)) 32 ≡ reader (blankWord 0) (draft 4 5 6 0 l h 0 0)
-  unfolding readOf stepOf signOf spacedOf shutOf takenOf numberOf fitsOf worthOf
+  unfolding readOf stepOf signOf spacedOf shutOf takenOf numberOf worthOf
   answer-space =
       let z : 0 ≤ h * 256 + l = omega arith in
       let m : h * 256 + l ≤ 65535 = omega arith in

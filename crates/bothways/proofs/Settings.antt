@@ -8,8 +8,8 @@ use Rattle.append.specs.Sheet.{Sheet, puts}
 use Rattle.reader.specs.declared.reader.Reader.{Reader}
 use Rattle.reader.specs.Letter.{signOf, digitOf}
 use Rattle.reader.specs.Word.{word, letterOf, worthOf}
-use Rattle.reader.specs.Draft.{draft, mayOf, keywordOf}
-use Rattle.reader.specs.Line.{fitsOf, numberOf, namedOf, takenOf, closingOf, lineOf}
+use Rattle.reader.specs.Draft.{draft, keywordOf}
+use Rattle.reader.specs.Line.{numberOf, namedOf, takenOf, closingOf, lineOf}
 use Rattle.reader.specs.Reader.{reader, startOf, shutOf, spacedOf, plainOf, stepOf, readOf}
 use Rattle.append.specs.Number.{decimal}
 use Rattle.lister.specs.List.{bitcyclesWord, settingsText}
@@ -21,12 +21,12 @@ use Rattle.bothways.proofs.Between.{Rest}
 
 -- `bitcycles `
 settings-word : (t : List ℕ) → quietly startOf (bitcyclesWord ++ t) ≡ quietly (reader (word 0 0 0) (draft 1 10 8 0 0 0 0 0)) t
-unfolding quietly readOf stepOf plainOf letterOf signOf digitOf spacedOf shutOf takenOf namedOf keywordOf mayOf worthOf
+unfolding quietly readOf stepOf plainOf letterOf signOf digitOf spacedOf shutOf takenOf namedOf keywordOf worthOf
 settings-word t = refl
 
 module _ (n : ℕ) (small : n < 65536) where
   settings-end : quietly (reader (word 6 n 0) (draft 1 10 8 0 0 0 0 0)) (10 ∷ []) ≡ before 1 8 (n % 256) (n / 256) 0 0 2
-  unfolding quietly readOf stepOf signOf shutOf takenOf numberOf fitsOf worthOf lineOf closingOf
+  unfolding quietly readOf stepOf signOf shutOf takenOf numberOf worthOf lineOf closingOf
   settings-end =
       let z : 0 ≤ n = omega arith in
       let m : n ≤ 65535 = omega arith in

@@ -5,10 +5,9 @@ use lib.ListN.{length}
 use Rattle.fields.specs.Little.{field}
 use Rattle.benchfile.specs.Row.{rowBytes}
 use Rattle.benchfile.specs.File.{sectionOf}
-use Rattle.append.specs.Number.{decimal}
 use Rattle.append.specs.Texts.{each}
 use Rattle.lister.specs.Body.{linesText, fillWord, romWord}
-use Rattle.lister.specs.Row.{rowText}
+use Rattle.lister.specs.Row.{numberText, rowText}
 
 -- `bitcycles `
 abbrev pub bitcyclesWord : List ℕ
@@ -16,7 +15,7 @@ bitcyclesWord = 98 ∷ 105 ∷ 116 ∷ 99 ∷ 121 ∷ 99 ∷ 108 ∷ 101 ∷ 115
 
 -- `bitcycles 264`
 unfoldable pub settingsText : ℕ → List ℕ
-settingsText n = bitcyclesWord ++ (decimal n ++ (10 ∷ []))
+settingsText n = numberText bitcyclesWord n
 
 -- n rows from row i on
 abbrev pub rowsText : List ℕ → ℕ → ℕ → List ℕ

@@ -83,9 +83,13 @@ padText port l h = padWord ++ (decimal port ++ wordText l h)
 unfoldable pub plugText : ℕ → ℕ → List ℕ
 plugText port on = plugWord ++ (decimal port ++ pick (eqb on 1) onWord offWord)
 
+-- a line of a word and a number
+abbrev pub numberText : List ℕ → ℕ → List ℕ
+numberText w n = w ++ (decimal n ++ (10 ∷ []))
+
 -- `back 41`
 unfoldable pub backText : ℕ → List ℕ
-backText n = backWord ++ (decimal n ++ (10 ∷ []))
+backText n = numberText backWord n
 
 -- the line of a row, by its kind
 abbrev pub texts : List ℕ → List (Entry (List ℕ))

@@ -2,24 +2,13 @@
 ghost use mathlib.Core.Path.{_≡_};
 ghost use denote.Ref.{now};
 ghost use Rattle.append.specs.Sheet.{sheet, puts};
-ghost use Rattle.lister.specs.List.{settingsText, scriptText, listText};
+ghost use Rattle.lister.specs.List.{scriptText, listText};
 use crate::body::lines;
+use crate::row::number_line;
 use crate::row::write_row;
-use append::number::decimal;
-use append::push_byte;
-use append::put;
 use benchfile::part::part;
 use benchfile::section::section_look;
 use benchfile::word::two;
-
-// `bitcycles 264`
-fn settings(out: &mut [u8], at: usize, n: u16) -> usize
-    ensures { λ r. ⌜ sheet (now (out .exit)) r ≡ puts (sheet (now (out .entry)) at) (settingsText n) ⌝ }
-{
-    let a = put(out, at, b"bitcycles ");
-    let b = decimal(out, a, n as u64);
-    push_byte(out, b, b'\n')
-}
 
 // The rows of a script, a line each.
 fn rows(out: &mut [u8], at: usize, s: &[u8]) -> usize
@@ -45,7 +34,7 @@ pub fn list_file(out: &mut [u8], file: &[u8]) -> usize
     let rom = section_look(file, 2);
     let script = section_look(file, 3);
     let n = two(first, 0);
-    let a = settings(out, 0, n);
+    let a = number_line(out, 0, b"bitcycles ", n);
     let b = lines(out, a, b"fill", fill);
     let c = lines(out, b, b"rom", rom);
     rows(out, c, script)

@@ -2,7 +2,7 @@
 ghost use mathlib.Core.Path.{_≡_};
 ghost use denote.Ref.{now};
 ghost use Rattle.append.specs.Sheet.{sheet, puts};
-ghost use Rattle.lister.specs.Row.{readText, writeText, answerText, wordText, eventText, flagsText, cyclesText, padText, plugText, backText, rowText};
+ghost use Rattle.lister.specs.Row.{readText, writeText, answerText, wordText, eventText, flagsText, cyclesText, padText, plugText, numberText, rowText};
 use append::number::decimal;
 use append::number::glyph;
 use append::push_byte;
@@ -160,10 +160,11 @@ fn plug(out: &mut [u8], at: usize, port: u8, on: u8) -> usize
     put(out, b, b" off\n")
 }
 
-fn back(out: &mut [u8], at: usize, n: u16) -> usize
-    ensures { λ r. ⌜ sheet (now (out .exit)) r ≡ puts (sheet (now (out .entry)) at) (backText n) ⌝ }
+// A line of a word and a number.
+pub fn number_line(out: &mut [u8], at: usize, word: &[u8], n: u16) -> usize
+    ensures { λ r. ⌜ sheet (now (out .exit)) r ≡ puts (sheet (now (out .entry)) at) (numberText (now (word .entry)) n) ⌝ }
 {
-    let a = put(out, at, b"back ");
+    let a = put(out, at, word);
     let b = decimal(out, a, n as u64);
     push_byte(out, b, b'\n')
 }
@@ -200,7 +201,7 @@ pub fn write_row(out: &mut [u8], at: usize, row: &[u8]) -> usize
         return put(out, at, &t);
     }
     if kind == 7 {
-        return back(out, at, count);
+        return number_line(out, at, b"back ", count);
     }
     at
 }

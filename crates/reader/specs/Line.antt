@@ -6,96 +6,48 @@ use lib.Dec.{eqb, leb}
 use Rattle.common.specs.Pick.{pick}
 use Rattle.common.specs.Table.{Entry, find, at}
 use Rattle.reader.specs.declared.draft.Draft.{Draft}
+use Rattle.reader.specs.declared.line.Place.{Place}
 use Rattle.reader.specs.Draft.{draft, failedOf, keywordOf, optionOf, switchOf, fileOf}
 
--- the largest number in each place
-abbrev pub mosts : List (Entry ℕ)
-mosts =
-    at 1 65535
-    ∷ at 3 255
-    ∷ at 4 16777215
-    ∷ at 5 255
-    ∷ at 6 255
-    ∷ at 7 65535
-    ∷ at 8 65535
-    ∷ at 10 65535
-    ∷ at 11 255
-    ∷ at 12 255
-    ∷ at 13 255
-    ∷ at 15 65535
-    ∷ at 16 16777215
-    ∷ at 17 255
-    ∷ at 19 255
+-- the places of numbers: least, largest, what is expected behind it, which of its bytes go to b1, b2, b3 and b4 as document 01 lays
+-- out the rows (1 the lowest; 0: none), and what it completes. Counts are 1 up; bytes of a fill or a ROM are complete as they come
+abbrev pub places : List (Entry Place)
+places =
+    at 1 (1, 65535, 2, 1, 2, 0, 0, 0)
+    ∷ at 3 (0, 255, 2, 0, 0, 1, 0, 0)
+    ∷ at 4 (0, 16777215, 18, 3, 1, 2, 0, 0)
+    ∷ at 5 (0, 255, 18, 0, 0, 0, 1, 0)
+    ∷ at 6 (0, 255, 7, 1, 0, 0, 0, 0)
+    ∷ at 7 (0, 65535, 18, 0, 1, 2, 0, 0)
+    ∷ at 8 (0, 65535, 5, 0, 1, 2, 0, 0)
+    ∷ at 10 (0, 65535, 18, 1, 2, 0, 0, 0)
+    ∷ at 11 (0, 255, 13, 1, 0, 0, 0, 1)
+    ∷ at 12 (0, 255, 19, 1, 0, 0, 0, 5)
+    ∷ at 13 (0, 255, 13, 1, 0, 0, 0, 1)
+    ∷ at 15 (1, 65535, 18, 1, 2, 0, 0, 0)
+    ∷ at 16 (0, 16777215, 5, 3, 1, 2, 0, 0)
+    ∷ at 17 (0, 255, 9, 1, 0, 0, 0, 0)
+    ∷ at 19 (0, 255, 19, 1, 0, 0, 0, 5)
     ∷ []
 
-abbrev pub mostOf : ℕ → ℕ
-mostOf s = find mosts s 0
+-- where no number is expected, the least is over the largest
+abbrev pub placeOf : ℕ → Place
+placeOf s = find places s (1, 0, 18, 0, 0, 0, 0, 0)
 
--- counts are 1 up; where no number is expected, the least is over the largest
-abbrev pub leasts : List (Entry ℕ)
-leasts = at 0 1 ∷ at 1 1 ∷ at 2 1 ∷ at 9 1 ∷ at 14 1 ∷ at 15 1 ∷ at 18 1 ∷ []
+-- the bytes of a number, lowest first
+abbrev pub bytes : ℕ → List (Entry ℕ)
+bytes v = at 1 (v % 256) ∷ at 2 (v / 256 % 256) ∷ at 3 (v / 65536 % 256) ∷ []
 
-abbrev pub leastOf : ℕ → ℕ
-leastOf s = find leasts s 0
+-- one of them, or what was there before
+abbrev pub byteOf : ℕ → ℕ → ℕ → ℕ
+byteOf w x v = find (bytes v) w x
 
--- what is expected after a number
-abbrev pub nexts : List (Entry ℕ)
-nexts =
-    at 1 2 ∷ at 3 2 ∷ at 6 7 ∷ at 8 5 ∷ at 11 13 ∷ at 12 19 ∷ at 13 13 ∷ at 16 5 ∷ at 17 9 ∷ at 19 19 ∷ []
-
-abbrev pub nextOf : ℕ → ℕ
-nextOf s = find nexts s 18
-
--- where the bytes of a number go, as document 01 lays out the rows: bank, port, low byte of a count ..
-abbrev pub firstBytes : ℕ → ℕ → List (Entry ℕ)
-firstBytes l h =
-    at 1 l ∷ at 4 h ∷ at 6 l ∷ at 10 l ∷ at 11 l ∷ at 12 l ∷ at 13 l ∷ at 15 l ∷ at 16 h ∷ at 17 l ∷ at 19 l ∷ []
-
-abbrev pub byte1Of : ℕ → ℕ → ℕ → ℕ → ℕ
-byte1Of s x l h = find (firstBytes l h) s x
-
--- .. high byte of a count, low byte of an address or a word ..
-abbrev pub secondBytes : ℕ → ℕ → List (Entry ℕ)
-secondBytes l m = at 1 m ∷ at 4 l ∷ at 7 l ∷ at 8 l ∷ at 10 m ∷ at 15 m ∷ at 16 l ∷ []
-
-abbrev pub byte2Of : ℕ → ℕ → ℕ → ℕ → ℕ
-byte2Of s x l m = find (secondBytes l m) s x
-
--- .. their high byte, event ..
-abbrev pub thirdBytes : ℕ → ℕ → List (Entry ℕ)
-thirdBytes l m = at 3 l ∷ at 4 m ∷ at 7 m ∷ at 8 m ∷ at 16 m ∷ []
-
-abbrev pub byte3Of : ℕ → ℕ → ℕ → ℕ → ℕ
-byte3Of s x l m = find (thirdBytes l m) s x
-
--- .. and the byte of a write or an answer
-abbrev pub fourthBytes : ℕ → List (Entry ℕ)
-fourthBytes l = at 5 l ∷ []
-
-abbrev pub byte4Of : ℕ → ℕ → ℕ → ℕ
-byte4Of s x l = find (fourthBytes l) s x
-
--- bytes of a fill or a ROM are complete as they come
-abbrev pub emits : List (Entry ℕ)
-emits = at 11 1 ∷ at 12 5 ∷ at 13 1 ∷ at 19 5 ∷ []
-
-abbrev pub emitOf : ℕ → ℕ
-emitOf s = find emits s 0
-
--- a number in its place
-unfoldable pub fitsOf : ℕ → ℕ → Bool
-fitsOf s v = leb (leastOf s) v && leb v (mostOf s)
-
--- a number where one is expected
+-- a number where one is expected, in its range
 unfoldable pub numberOf : Draft → ℕ → Draft
 numberOf d v =
-    pick (fitsOf (d .state) v)
-    (draft (d .phase) (nextOf (d .state)) (d .kind)
-    (byte1Of (d .state) (d .b1) (v % 256) (v / 65536 % 256))
-    (byte2Of (d .state) (d .b2) (v % 256) (v / 256 % 256))
-    (byte3Of (d .state) (d .b3) (v % 256) (v / 256 % 256))
-    (byte4Of (d .state) (d .b4) (v % 256))
-    (emitOf (d .state)))
+    let p = placeOf (d .state) in
+    pick (leb (p .0) v && leb v (p .1))
+    (draft (d .phase) (p .2) (d .kind) (byteOf (p .3) (d .b1) v) (byteOf (p .4) (d .b2) v) (byteOf (p .5) (d .b3) v) (byteOf (p .6) (d .b4) v) (p .7))
     (failedOf d)
 
 -- letters where they are expected

@@ -1,6 +1,6 @@
 // A line while it is read: what it is, its bytes so far, and what is expected next.
 ghost use mathlib.Core.Path.{_≡_};
-ghost use Rattle.reader.specs.Draft.{failedOf, kindOf, firstOf, needOf, lastOf, turnedOf, mayOf, keywordOf, optionOf, switchOf, fileOf};
+ghost use Rattle.reader.specs.Draft.{failedOf, opensOf, keywordOf, optionOf, switchOf, fileOf};
 
 // Phases: 0 nothing yet, 1 settings, 2 fill, 3 ROM, 4 rows. Kinds: 1 to 7 rows, 8 bitcycles, 9 fill, 10 rom, 11 rom file.
 // States, what is expected: 0 a line, 1 count of cycles, 2 options, 3 event, 4 address of a read, 5 byte, 6 port of a pad, 7 word of a
@@ -28,98 +28,39 @@ pub fn failed(d: Draft) -> Draft
     r
 }
 
-// The word that starts a line, as a number in base 36: cycles, read, write, pad, plug, answer, back, bitcycles, fill, rom.
-fn kind_of(v: u64) -> u8
-    ensures { λ r. ⌜ r ≡ kindOf v ⌝ }
+// What a word opens: the kind of its line, what is expected first, the phases from which and up to which it may come, and the phase
+// that it opens. Settings stand first, then the fill, the ROM and the rows.
+struct Opening(u8, u8, u8, u8, u8);
+
+// The word that starts a line, as a number in base 36: cycles, read, write, pad, plug, answer, back, bitcycles, fill, rom. No other
+// word may come in any phase.
+fn opens(v: u64) -> Opening
+    ensures { λ r. ⌜ r ≡ opensOf v ⌝ }
 {
     match v {
-        783288676 => 1,
-        1278229 => 2,
-        55031810 => 3,
-        32773 => 4,
-        1194712 => 5,
-        644641299 => 6,
-        526628 => 7,
-        32506673912164 => 8,
-        723945 => 9,
-        35878 => 10,
-        _ => 0,
+        783288676 => Opening(1, 1, 2, 4, 4),
+        1278229 => Opening(2, 4, 2, 4, 4),
+        55031810 => Opening(3, 16, 2, 4, 4),
+        32773 => Opening(4, 6, 2, 4, 4),
+        1194712 => Opening(5, 17, 2, 4, 4),
+        644641299 => Opening(6, 8, 2, 4, 4),
+        526628 => Opening(7, 15, 2, 4, 4),
+        32506673912164 => Opening(8, 10, 0, 0, 1),
+        723945 => Opening(9, 11, 1, 2, 2),
+        35878 => Opening(10, 12, 2, 3, 3),
+        _ => Opening(0, 12, 5, 4, 4),
     }
-}
-
-// What is expected first.
-fn first(kind: u8) -> u8
-    ensures { λ r. ⌜ r ≡ firstOf kind ⌝ }
-{
-    match kind {
-        1 => 1,
-        2 => 4,
-        3 => 16,
-        4 => 6,
-        5 => 17,
-        6 => 8,
-        7 => 15,
-        8 => 10,
-        9 => 11,
-        _ => 12,
-    }
-}
-
-// Settings stand first, then the fill, the ROM and the rows: the phases in which a kind may come, from here ..
-fn need(kind: u8) -> u8
-    ensures { λ r. ⌜ r ≡ needOf kind ⌝ }
-{
-    match kind {
-        0 => 5,
-        8 => 0,
-        9 => 1,
-        _ => 2,
-    }
-}
-
-// .. up to here ..
-fn last(kind: u8) -> u8
-    ensures { λ r. ⌜ r ≡ lastOf kind ⌝ }
-{
-    match kind {
-        8 => 0,
-        9 => 2,
-        10 => 3,
-        _ => 4,
-    }
-}
-
-// .. and the phase that it opens.
-fn turned(kind: u8) -> u8
-    ensures { λ r. ⌜ r ≡ turnedOf kind ⌝ }
-{
-    match kind {
-        8 => 1,
-        9 => 2,
-        10 => 3,
-        _ => 4,
-    }
-}
-
-fn may(kind: u8, phase: u8) -> bool
-    ensures { λ r. ⌜ r ≡ mayOf kind phase ⌝ }
-{
-    let from = need(kind);
-    let to = last(kind);
-    (from <= phase) & (phase <= to)
 }
 
 pub fn keyword(d: Draft, v: u64) -> Draft
     ensures { λ r. ⌜ r ≡ keywordOf d v ⌝ }
 {
-    let kind = kind_of(v);
-    if may(kind, d.phase) {
-        let phase = turned(kind);
-        let state = first(kind);
+    let o = opens(v);
+    if (o.2 <= d.phase) & (d.phase <= o.3) {
         return Draft {
-            phase: phase,
-            state: state,
-            kind: kind,
+            phase: o.4,
+            state: o.1,
+            kind: o.0,
             b1: 0,
             b2: 0,
             b3: 0,

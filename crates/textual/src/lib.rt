@@ -1,7 +1,7 @@
 // The programs assemble and list: read, call, write. What is wrong goes to standard error in one line, and nothing to standard output.
+pub mod mark;
 pub mod message;
 pub mod name;
-pub mod spot;
 
 use assembler::assemble::assemble_text;
 use benchfile::check::file_check;

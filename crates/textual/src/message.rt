@@ -1,5 +1,5 @@
 // What was expected, in words.
-use crate::spot::spot_of;
+use crate::mark::marks_in;
 use append::number::decimal;
 use append::put;
 use benchfile::part::part;
@@ -102,12 +102,13 @@ fn found(out: &mut [u8], at: usize, text: &[u8], from: usize) -> usize {
 // One line on standard error: the line, the word, what was expected.
 pub fn report(text: &[u8]) {
     let upto = part(text, 0, fault(text));
-    let p = spot_of(upto);
+    let lines = marks_in(upto, 1, true);
+    let words = marks_in(upto, 3, true);
     let mut out = [0u8; 256];
     let a = put(&mut out, 0, b"assemble: line ");
-    let b = decimal(&mut out, a, p.line);
+    let b = decimal(&mut out, a, lines.next);
     let c = put(&mut out, b, b": ");
-    let d = found(&mut out, c, upto, p.from);
+    let d = found(&mut out, c, upto, words.behind);
     let e = put(&mut out, d, b"\n");
     io::write_all(STDERR_FILENO, part(&out, 0, e));
 }

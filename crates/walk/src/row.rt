@@ -136,12 +136,6 @@ fn put_done(
         who: Who::Cpu,
     };
     match says {
-        Row::Cycles {
-            count,
-            event,
-            due,
-            timer,
-        } => at,
         Row::Read { bank, addr } => {
             let access = Access {
                 write: false,
@@ -162,11 +156,7 @@ fn put_done(
             let r = reached(Who::Cpu, w, access);
             put_access(out, at, l, access, r, false)
         }
-        Row::Pad { port, word } => at,
-        Row::Plug { port, on } => at,
-        Row::Answer { addr, byte } => at,
-        Row::Back { count } => at,
-        Row::Broken => at,
+        _ => at,
     }
 }
 

@@ -59,22 +59,7 @@ fn by_row(
             timer,
         ),
         Row::Back { count } => walk_back(w, low, high, entries, origins, out, row, count),
-        Row::Read { bank, addr } => {
-            walk_row(w, low, high, entries, origins, rom, out, only, row, says)
-        }
-        Row::Write { bank, addr, byte } => {
-            walk_row(w, low, high, entries, origins, rom, out, only, row, says)
-        }
-        Row::Pad { port, word } => {
-            walk_row(w, low, high, entries, origins, rom, out, only, row, says)
-        }
-        Row::Plug { port, on } => {
-            walk_row(w, low, high, entries, origins, rom, out, only, row, says)
-        }
-        Row::Answer { addr, byte } => {
-            walk_row(w, low, high, entries, origins, rom, out, only, row, says)
-        }
-        Row::Broken => walk_row(w, low, high, entries, origins, rom, out, only, row, says),
+        _ => walk_row(w, low, high, entries, origins, rom, out, only, row, says),
     }
 }
 

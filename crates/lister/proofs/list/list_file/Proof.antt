@@ -1,3 +1,4 @@
+use Rattle.lister.specs.List.{settingsText}
 use Rattle.lister.proofs.Join.{listed}
 use borrow.Author.Needs.{needs}
 use Rattle.lister.proofs.list.list_file.Statement.{statement}
@@ -18,8 +19,11 @@ section-look-requires-4 c κs = search needs
 two-requires : tie.Need-two-requires
 two-requires c κs = search needs
 
-settings-requires : tie.Need-settings-requires
-settings-requires c κs = search needs
+slice-aggregate-number-line : tie.Need-slice-aggregate-number-line
+slice-aggregate-number-line c = search needs
+
+number-line-requires : tie.Need-number-line-requires
+number-line-requires c κs = search needs
 
 slice-aggregate-lines : tie.Need-slice-aggregate-lines
 slice-aggregate-lines c = search needs
@@ -40,7 +44,8 @@ same-length : tie.Need-same-length
 same-length c = search needs
 
 returns : tie.Need-returns
-returns c = listed _ (c .before .before .before .before .before .before .before .before .before .before .before .before .before .before .before .before .before .before .before .before .before .before .before .before .before .args .file .now) (c .before .before .before .before .before .before .before .before .before .before .before .before .before .before .before .before .before .before .before .before .before .before .section-look .ensures) (c .before .before .before .before .before .before .before .before .before .before .before .before .before .before .before .before .before .before .before .before .before .section-look2 .ensures) (c .before .before .before .before .before .before .before .before .before .before .before .before .before .before .before .before .before .before .before .before .section-look3 .ensures) (c .before .before .before .before .before .before .before .before .before .before .before .before .before .before .before .before .before .before .before .section-look4 .ensures) (c .before .before .before .before .before .before .before .before .before .before .before .before .before .before .before .before .before .before .two .ensures) (c .before .before .before .before .before .before .before .before .before .before .before .before .before .before .before .before .settings .ensures) (c .before .before .before .before .before .before .before .before .before .before .before .lines .ensures) (c .before .before .before .before .before .before .lines2 .ensures) (c .before .before .rows .ensures)
+unfolding settingsText
+returns c = listed _ (c .before .before .before .before .before .before .before .before .before .before .before .before .before .before .before .before .before .before .before .before .before .before .before .before .before .before .args .file .now) (c .before .before .before .before .before .before .before .before .before .before .before .before .before .before .before .before .before .before .before .before .before .before .before .section-look .ensures) (c .before .before .before .before .before .before .before .before .before .before .before .before .before .before .before .before .before .before .before .before .before .before .section-look2 .ensures) (c .before .before .before .before .before .before .before .before .before .before .before .before .before .before .before .before .before .before .before .before .before .section-look3 .ensures) (c .before .before .before .before .before .before .before .before .before .before .before .before .before .before .before .before .before .before .before .before .section-look4 .ensures) (c .before .before .before .before .before .before .before .before .before .before .before .before .before .before .before .before .before .before .before .two .ensures) (c .before .before .before .before .before .before .before .before .before .before .before .before .before .before .before .before .number-line .ensures) (c .before .before .before .before .before .before .before .before .before .before .before .lines .ensures) (c .before .before .before .before .before .before .lines2 .ensures) (c .before .before .rows .ensures)
 
 pub list-file-spec : {M : Type 1} → statement M
 list-file-spec =
@@ -51,7 +56,8 @@ list-file-spec =
     section-look-requires-3
     section-look-requires-4
     two-requires
-    settings-requires
+    slice-aggregate-number-line
+    number-line-requires
     slice-aggregate-lines
     lines-requires
     slice-aggregate-lines-2

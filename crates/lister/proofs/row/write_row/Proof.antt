@@ -1,6 +1,6 @@
 use Rattle.append.proofs.Laws.{puts-none}
 use mathlib.Core.Path.{_∙_, sym}
-use Rattle.lister.specs.Row.{rowText}
+use Rattle.lister.specs.Row.{backText, rowText}
 use borrow.Author.Tests.{ne-eqb}
 use borrow.Author.Needs.{needs}
 use Rattle.lister.proofs.row.write_row.Statement.{statement}
@@ -102,15 +102,18 @@ returns-6 : tie.Need-returns-6
 unfolding rowText
 returns-6 c = (c .before .before .put3 .ensures) ∙ simp (sym (c .before .before .before .before .before .before .before .before .before .before .before .before .before .before .before .before .before .byte .ensures) ∙ (c .before .before .before .before .before .before .if6 .taken), (c .before .before .before .before .before .answer-text .ensures), (c .before .before .before .before .before .before .before .before .before .before .before .before .before .before .before .byte3 .ensures), (c .before .before .before .before .before .before .before .before .before .before .before .before .before .before .byte4 .ensures), (c .before .before .before .before .before .before .before .before .before .before .before .before .before .byte5 .ensures))
 
-back-requires : tie.Need-back-requires
-back-requires c κs = search needs
+slice-aggregate-number-line : tie.Need-slice-aggregate-number-line
+slice-aggregate-number-line c = search needs
+
+number-line-requires : tie.Need-number-line-requires
+number-line-requires c κs = search needs
 
 same-length-7 : tie.Need-same-length-7
 same-length-7 c = search needs
 
 returns-7 : tie.Need-returns-7
-unfolding rowText
-returns-7 c = (c .before .before .back .ensures) ∙ simp (sym (c .before .before .before .before .before .before .before .before .before .before .before .before .before .before .before .before .byte .ensures) ∙ (c .before .before .before .before .if7 .taken), (c .before .before .before .before .before .before .before .before .before .before .before .two .ensures))
+unfolding rowText backText
+returns-7 c = (c .before .before .number-line .ensures) ∙ simp (sym (c .before .before .before .before .before .before .before .before .before .before .before .before .before .before .before .before .before .byte .ensures) ∙ (c .before .before .before .before .before .if7 .taken), (c .before .before .before .before .before .before .before .before .before .before .before .before .two .ensures))
 
 returns-8 : tie.Need-returns-8
 unfolding rowText
@@ -150,7 +153,8 @@ write-row-spec =
     put-requires-3
     same-length-6
     returns-6
-    back-requires
+    slice-aggregate-number-line
+    number-line-requires
     same-length-7
     returns-7
     returns-8)

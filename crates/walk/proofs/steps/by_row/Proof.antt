@@ -1,9 +1,32 @@
-use Rattle.walk.proofs.Join.{by-cycles, by-back, by-row, by-broken}
-use Rattle.walk.specs.Walk.{byRow}
-use mathlib.Core.Path.{refl}
+use Prim.Native.Nat.{ℕ}
+use mathlib.Core.List.{List, [], _∷_}
+use mathlib.Core.Path.{_≡_}
+use denote.Enum.Declared.{tagOf}
+use types.Run.{OneOf, miss}
 use borrow.Author.Needs.{needs}
+use Rattle.benchfile.proofs.row.Row.{the-type}
+use Rattle.benchfile.specs.declared.row.Row.{Row}
+use Rattle.benchfile.specs.declared.row.Row.the-variants.{Cycles, Read, Write, Pad, Plug, Answer, Back, Broken}
+use Rattle.walk.specs.Walk.{Walking, rowWalked, byRow}
+use Rattle.walk.proofs.Join.{by-cycles, by-back}
 use Rattle.walk.proofs.steps.by_row.Statement.{statement}
 use Rattle.walk.proofs.steps.by_row.Tie as tie
+
+-- every variant but `Cycles` and `Back`, by its place in the enum
+abbrev others : List ℕ
+others = 1 ∷ 2 ∷ 3 ∷ 4 ∷ 5 ∷ 7 ∷ []
+
+by-other : (rom : List ℕ) (only row : ℕ) (says : Row) (w : Walking) {x : Walking} → OneOf others (tagOf the-type says)
+    → x ≡ rowWalked rom only row says w → x ≡ byRow rom only row says w
+unfolding byRow
+by-other rom only row (Cycles count event due timer) w h p = absurd (miss others 0 tt h)
+by-other rom only row (Read bank addr) w h p = p
+by-other rom only row (Write bank addr byte) w h p = p
+by-other rom only row (Pad port word) w h p = p
+by-other rom only row (Plug port on) w h p = p
+by-other rom only row (Answer addr byte) w h p = p
+by-other rom only row (Back count) w h p = absurd (miss others 6 tt h)
+by-other rom only row Broken w h p = p
 
 enum-known-says : tie.Need-enum-known-says
 enum-known-says c = search needs
@@ -17,41 +40,8 @@ enum-known-says-2 c = search needs
 walk-back-requires : tie.Need-walk-back-requires
 walk-back-requires c κs = search needs
 
-enum-known-says-3 : tie.Need-enum-known-says-3
-enum-known-says-3 c = search needs
-
 walk-row-requires : tie.Need-walk-row-requires
 walk-row-requires c κs = search needs
-
-enum-known-says-4 : tie.Need-enum-known-says-4
-enum-known-says-4 c = search needs
-
-walk-row-requires-2 : tie.Need-walk-row-requires-2
-walk-row-requires-2 c κs = search needs
-
-enum-known-says-5 : tie.Need-enum-known-says-5
-enum-known-says-5 c = search needs
-
-walk-row-requires-3 : tie.Need-walk-row-requires-3
-walk-row-requires-3 c κs = search needs
-
-enum-known-says-6 : tie.Need-enum-known-says-6
-enum-known-says-6 c = search needs
-
-walk-row-requires-4 : tie.Need-walk-row-requires-4
-walk-row-requires-4 c κs = search needs
-
-enum-known-says-7 : tie.Need-enum-known-says-7
-enum-known-says-7 c = search needs
-
-walk-row-requires-5 : tie.Need-walk-row-requires-5
-walk-row-requires-5 c κs = search needs
-
-enum-told : tie.Need-enum-told
-enum-told c = search needs
-
-walk-row-requires-6 : tie.Need-walk-row-requires-6
-walk-row-requires-6 c κs = search needs
 
 same-length : tie.Need-same-length
 same-length c = search needs
@@ -105,102 +95,7 @@ same-length-15 : tie.Need-same-length-15
 same-length-15 c = search needs
 
 returns-3 : tie.Need-returns-3
-unfolding byRow
-returns-3 c = by-row _ _ _ _ _ (c .before .before .before .before .before .before .before .before .before .before .before .before .before .before .before .before .before .says3 .given .1) refl (c .before .before .before .before .before .before .before .before .before .before .walk-row .ensures)
-
-same-length-16 : tie.Need-same-length-16
-same-length-16 c = search needs
-
-same-length-17 : tie.Need-same-length-17
-same-length-17 c = search needs
-
-same-length-18 : tie.Need-same-length-18
-same-length-18 c = search needs
-
-same-length-19 : tie.Need-same-length-19
-same-length-19 c = search needs
-
-same-length-20 : tie.Need-same-length-20
-same-length-20 c = search needs
-
-returns-4 : tie.Need-returns-4
-unfolding byRow
-returns-4 c = by-row _ _ _ _ _ (c .before .before .before .before .before .before .before .before .before .before .before .before .before .before .before .before .before .says4 .given .1) refl (c .before .before .before .before .before .before .before .before .before .before .walk-row2 .ensures)
-
-same-length-21 : tie.Need-same-length-21
-same-length-21 c = search needs
-
-same-length-22 : tie.Need-same-length-22
-same-length-22 c = search needs
-
-same-length-23 : tie.Need-same-length-23
-same-length-23 c = search needs
-
-same-length-24 : tie.Need-same-length-24
-same-length-24 c = search needs
-
-same-length-25 : tie.Need-same-length-25
-same-length-25 c = search needs
-
-returns-5 : tie.Need-returns-5
-unfolding byRow
-returns-5 c = by-row _ _ _ _ _ (c .before .before .before .before .before .before .before .before .before .before .before .before .before .before .before .before .before .says5 .given .1) refl (c .before .before .before .before .before .before .before .before .before .before .walk-row3 .ensures)
-
-same-length-26 : tie.Need-same-length-26
-same-length-26 c = search needs
-
-same-length-27 : tie.Need-same-length-27
-same-length-27 c = search needs
-
-same-length-28 : tie.Need-same-length-28
-same-length-28 c = search needs
-
-same-length-29 : tie.Need-same-length-29
-same-length-29 c = search needs
-
-same-length-30 : tie.Need-same-length-30
-same-length-30 c = search needs
-
-returns-6 : tie.Need-returns-6
-unfolding byRow
-returns-6 c = by-row _ _ _ _ _ (c .before .before .before .before .before .before .before .before .before .before .before .before .before .before .before .before .before .says6 .given .1) refl (c .before .before .before .before .before .before .before .before .before .before .walk-row4 .ensures)
-
-same-length-31 : tie.Need-same-length-31
-same-length-31 c = search needs
-
-same-length-32 : tie.Need-same-length-32
-same-length-32 c = search needs
-
-same-length-33 : tie.Need-same-length-33
-same-length-33 c = search needs
-
-same-length-34 : tie.Need-same-length-34
-same-length-34 c = search needs
-
-same-length-35 : tie.Need-same-length-35
-same-length-35 c = search needs
-
-returns-7 : tie.Need-returns-7
-unfolding byRow
-returns-7 c = by-row _ _ _ _ _ (c .before .before .before .before .before .before .before .before .before .before .before .before .before .before .before .before .before .says7 .given .1) refl (c .before .before .before .before .before .before .before .before .before .before .walk-row5 .ensures)
-
-same-length-36 : tie.Need-same-length-36
-same-length-36 c = search needs
-
-same-length-37 : tie.Need-same-length-37
-same-length-37 c = search needs
-
-same-length-38 : tie.Need-same-length-38
-same-length-38 c = search needs
-
-same-length-39 : tie.Need-same-length-39
-same-length-39 c = search needs
-
-same-length-40 : tie.Need-same-length-40
-same-length-40 c = search needs
-
-returns-8 : tie.Need-returns-8
-returns-8 c = by-broken _ _ _ _ (c .before .before .before .before .before .before .before .before .before .before .before .before .before .before .before .before .enum-told .given .1) (c .before .before .before .before .before .before .before .before .before .before .walk-row6 .ensures)
+returns-3 c = by-other _ _ _ _ _ (c .before .before .before .before .before .before .before .before .before .before .before .before .before .before .before .before .match .keys3) (c .before .before .before .before .before .before .before .before .before .before .walk-row .ensures)
 
 pub by-row-spec : {M : Type 1} → statement M
 by-row-spec =
@@ -210,18 +105,7 @@ by-row-spec =
     walk-cycle-requires
     enum-known-says-2
     walk-back-requires
-    enum-known-says-3
     walk-row-requires
-    enum-known-says-4
-    walk-row-requires-2
-    enum-known-says-5
-    walk-row-requires-3
-    enum-known-says-6
-    walk-row-requires-4
-    enum-known-says-7
-    walk-row-requires-5
-    enum-told
-    walk-row-requires-6
     same-length
     same-length-2
     same-length-3
@@ -239,34 +123,4 @@ by-row-spec =
     same-length-13
     same-length-14
     same-length-15
-    returns-3
-    same-length-16
-    same-length-17
-    same-length-18
-    same-length-19
-    same-length-20
-    returns-4
-    same-length-21
-    same-length-22
-    same-length-23
-    same-length-24
-    same-length-25
-    returns-5
-    same-length-26
-    same-length-27
-    same-length-28
-    same-length-29
-    same-length-30
-    returns-6
-    same-length-31
-    same-length-32
-    same-length-33
-    same-length-34
-    same-length-35
-    returns-7
-    same-length-36
-    same-length-37
-    same-length-38
-    same-length-39
-    same-length-40
-    returns-8)
+    returns-3)

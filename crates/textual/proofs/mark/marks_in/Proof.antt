@@ -1,14 +1,14 @@
 use Prim.Native.Nat.{_-_}
 use lib.ListN.{length}
 use native.Mathlib.Omega.{arith}
-use Rattle.textual.proofs.name.span_of.Statement.{statement}
-use Rattle.textual.proofs.name.span_of.Tie as tie
+use Rattle.textual.proofs.mark.marks_in.Statement.{statement}
+use Rattle.textual.proofs.mark.marks_in.Tie as tie
 
 abbrev Inv-loop : tie.InvT-loop
-Inv-loop s p₀ i₀ p i = Unit
+Inv-loop s most inside m₀ i₀ m i = Unit
 
 abbrev μ-loop : tie.MeasureT-loop
-μ-loop s p₀ i₀ p i = length s - i
+μ-loop s most inside m₀ i₀ m i = length s - i
 
 loop-holds : tie.Need-loop-holds Inv-loop μ-loop
 loop-holds c = tt
@@ -34,8 +34,8 @@ loop-again c = tt
 returns : tie.Need-returns Inv-loop μ-loop
 returns c = tt
 
-pub span-of-spec : {M : Type 1} → statement M
-span-of-spec =
+pub marks-in-spec : {M : Type 1} → statement M
+marks-in-spec =
     tie.close
     (tie.spec
     Inv-loop

@@ -1,8 +1,8 @@
 use mathlib.Core.Path.{sym}
 use Rattle.common.proofs.TableLaws.{find-none}
-use Rattle.reader.specs.Draft.{keywords}
-use Rattle.reader.proofs.draft.kind_of.Statement.{statement}
-use Rattle.reader.proofs.draft.kind_of.Tie as tie
+use Rattle.reader.specs.Line.{places}
+use Rattle.reader.proofs.line.place_of.Statement.{statement}
+use Rattle.reader.proofs.line.place_of.Tie as tie
 
 returns : tie.Need-returns
 returns c = simp (c .match .keys1)
@@ -35,10 +35,25 @@ returns-10 : tie.Need-returns-10
 returns-10 c = simp (c .match .keys10)
 
 returns-11 : tie.Need-returns-11
-returns-11 c = let a = c .before .args in sym (find-none Unit (keywords) (a .v) (0) (c .match .rest))
+returns-11 c = simp (c .match .keys11)
 
-pub kind-of-spec : {M : Type 1} → statement M
-kind-of-spec =
+returns-12 : tie.Need-returns-12
+returns-12 c = simp (c .match .keys12)
+
+returns-13 : tie.Need-returns-13
+returns-13 c = simp (c .match .keys13)
+
+returns-14 : tie.Need-returns-14
+returns-14 c = simp (c .match .keys14)
+
+returns-15 : tie.Need-returns-15
+returns-15 c = simp (c .match .keys15)
+
+returns-16 : tie.Need-returns-16
+returns-16 c = sym (find-none Unit places (c .before .args .state) (1, 0, 18, 0, 0, 0, 0, 0) (c .match .rest))
+
+pub place-of-spec : {M : Type 1} → statement M
+place-of-spec =
     tie.close
     (tie.spec
     returns
@@ -51,4 +66,9 @@ kind-of-spec =
     returns-8
     returns-9
     returns-10
-    returns-11)
+    returns-11
+    returns-12
+    returns-13
+    returns-14
+    returns-15
+    returns-16)

@@ -1,8 +1,8 @@
 use mathlib.Core.Path.{sym}
 use Rattle.common.proofs.TableLaws.{find-none}
-use Rattle.reader.specs.Line.{firstBytes}
-use Rattle.reader.proofs.line.byte1.Statement.{statement}
-use Rattle.reader.proofs.line.byte1.Tie as tie
+use Rattle.reader.specs.Draft.{openings}
+use Rattle.reader.proofs.draft.opens.Statement.{statement}
+use Rattle.reader.proofs.draft.opens.Tie as tie
 
 returns : tie.Need-returns
 returns c = simp (c .match .keys1)
@@ -35,13 +35,10 @@ returns-10 : tie.Need-returns-10
 returns-10 c = simp (c .match .keys10)
 
 returns-11 : tie.Need-returns-11
-returns-11 c = simp (c .match .keys11)
+returns-11 c = sym (find-none Unit openings (c .before .args .v) (0, 12, 5, 4, 4) (c .match .rest))
 
-returns-12 : tie.Need-returns-12
-returns-12 c = let a = c .before .args in sym (find-none Unit (firstBytes (a .low) (a .high)) (a .state) (a .b1) (c .match .rest))
-
-pub byte1-spec : {M : Type 1} → statement M
-byte1-spec =
+pub opens-spec : {M : Type 1} → statement M
+opens-spec =
     tie.close
     (tie.spec
     returns
@@ -54,5 +51,4 @@ byte1-spec =
     returns-8
     returns-9
     returns-10
-    returns-11
-    returns-12)
+    returns-11)

@@ -1,7 +1,7 @@
 // A machine and the bytes that an operation overwrote, read back from the 256 bytes of an entry.
 mod cases;
 mod dma;
-mod register_file;
+pub mod register_file;
 
 ghost use mathlib.Core.Path.{_≡_};
 ghost use Prim.Native.Nat.{_+_, _≤_};

@@ -21,14 +21,14 @@ use registers::math::Math;
 use registers::pads::Pads;
 use registers::wm_address::WmAddress;
 
-fn word_at(e: [u8; ENTRY_SIZE], k: usize) -> u16
+pub fn word_at(e: [u8; ENTRY_SIZE], k: usize) -> u16
     requires { ⌜ k + 2 ≤ entrySize ⌝ }
     ensures { λ r. ⌜ r ≡ field 2 e k ⌝ }
 {
     join2(e[k], e[k + 1])
 }
 
-fn wmadd_at(e: [u8; ENTRY_SIZE]) -> WmAddress
+pub fn wmadd_at(e: [u8; ENTRY_SIZE]) -> WmAddress
     ensures { λ r. ⌜ r ≡ wmaddAt e ⌝ }
 {
     let bank = bank_of(e[0]);

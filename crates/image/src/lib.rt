@@ -1,8 +1,8 @@
 // The 256 bytes of an entry: a machine's image and the bytes of work RAM that an operation overwrote.
 mod dma;
-mod olds;
+pub mod olds;
 mod pads;
-mod register_file;
+pub mod register_file;
 
 ghost use mathlib.Core.Path.{_≡_};
 ghost use Rattle.image.specs.Encode.{encode};

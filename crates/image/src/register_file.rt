@@ -8,7 +8,7 @@ use registers::Ports;
 use registers::wm_address::WmAddBank;
 use state::Machine;
 
-fn bank_byte(bank: WmAddBank) -> u8
+pub fn bank_byte(bank: WmAddBank) -> u8
     ensures { λ r. ⌜ r ≡ bankByte bank ⌝ }
 {
     match bank {

@@ -1,4 +1,9 @@
+pub mod BytesLaws
+pub mod CarryJoin
+pub mod CarryLaws
 pub mod Join
+pub mod MoveLaws
 pub mod QuietLaws
 pub mod RestJoin
 pub mod RestLaws
+pub mod WayJoin

@@ -81,8 +81,7 @@ module _ (rom : List ℕ) (w : World) (d : Dma) where
 module _ (rom : List ℕ) (m : Machine) (l h : List ℕ) (idle : m .io .pads .auto ≡ auto.Idle)
     (one : bitAnd (m .board .pad1) (65535 - 15) ≡ m .io .pads .port1 .buttons)
     (two : bitAnd (m .board .pad2) (65535 - 15) ≡ m .io .pads .port2 .buttons)
-    (runs : (m .dma .running || eqb (m .io .enables .mdmaen) 0) ≡ true)
-    (rests : ltb 0 (m .dma .wait) ≡ false → (m .dma .pending ≡ false) × (m .dma .state ≡ state.Idle)) where
+    (runs : (m .dma .running || eqb (m .io .enables .mdmaen) 0) ≡ true) where
   abbrev pads : Pads
   pads = m .io .pads
 
@@ -99,22 +98,26 @@ module _ (rom : List ℕ) (m : Machine) (l h : List ℕ) (idle : m .io .pads .au
       ap (λ (io : Io). stepFrom (io .pads .auto) io (m .board .bitcycles)) pressed-same
       ∙ (λ i. stepFrom (idle i) (m .io) (m .board .bitcycles))
 
-  -- what the cycle leaves
-  abbrev pub left : Turned
-  left =
-      record {
-        after = at (world (opened (m .io)) l h) (withWait (m .dma) (m .dma .wait - 1));
-        board = ticked (m .board) (nmiLine (m .io));
-        held = ltb 0 (m .dma .wait);
-        edge = rising (m .board .nmi) (nmiLine (m .io));
-      }
-
-  pub quiet-cycle : cycled rom m l h Nothing false false ≡ left
+  -- all is left to the unit, from the machine as it stands
+  pub unit-cycle : cycled rom m l h Nothing false false ≡ turnOf (cycleFrom rom (at (world (opened (m .io)) l h) (m .dma))) m (nmiLine (m .io))
   unfolding cycled timed updated opened mdmaenOf
-  quiet-cycle =
+  unit-cycle =
       let k = opened (m .io) in
       let nmi = nmiLine (m .io) in
       ap (λ (io : Io). turnOf (updated rom (at (world (opened (timed io false)) l h) (armed (m .dma) (hdmaenOf (opened (timed io false))) false false)) (m .board .clock)) m (nmiLine io)) settled-same
       ∙ ap (λ (d : Dma). turnOf (updated rom (at (world k l h) d) (m .board .clock)) m nmi) (armed-same (m .dma) (hdmaenOf k))
       ∙ ap (λ (d : Dma). turnOf (cycleFrom rom (at (world k l h) d)) m nmi) (start-same (m .dma) (mdmaenOf k) (m .board .clock) runs)
-      ∙ ap (λ (x : Held). turnOf x m nmi) (calm rom (world k l h) (m .dma) rests)
+
+  module _ (rests : ltb 0 (m .dma .wait) ≡ false → (m .dma .pending ≡ false) × (m .dma .state ≡ state.Idle)) where
+    -- what the cycle leaves
+    abbrev pub left : Turned
+    left =
+        record {
+          after = at (world (opened (m .io)) l h) (withWait (m .dma) (m .dma .wait - 1));
+          board = ticked (m .board) (nmiLine (m .io));
+          held = ltb 0 (m .dma .wait);
+          edge = rising (m .board .nmi) (nmiLine (m .io));
+        }
+
+    pub quiet-cycle : cycled rom m l h Nothing false false ≡ left
+    quiet-cycle = unit-cycle ∙ ap (λ (x : Held). turnOf x m (nmiLine (m .io))) (calm rom (world (opened (m .io)) l h) (m .dma) rests)

@@ -1,38 +1,21 @@
 -- The steps of a cycle on the machine's bytes, joined.
 use Prim.Native.Nat.{ℕ, _+_, _-_, _/_, _%_, _^_, min}
-use mathlib.Core.Bool.{Bool, true, false, not, _&&_}
+use mathlib.Core.Bool.{Bool, not, _&&_}
 use mathlib.Core.List.{List, [], _∷_, _++_}
-use mathlib.Core.Path.{_≡_, refl, sym, ap, _∙_}
-use borrow.Author.Tests.{eq-eqb, ne-eqb}
+use mathlib.Core.Path.{_≡_, ap, _∙_}
 use lib.Dec.{eqb, ltb}
-use lib.ListN.{getD, replicate}
-use Rattle.common.specs.Pick.{pick}
+use lib.ListN.{replicate}
 use Rattle.bench.specs.Ring.{after}
 use Rattle.bus.specs.Access.{noLog}
+use Rattle.fields.specs.Bytes.{byteAt}
 use Rattle.fields.specs.Little.{le}
 use Rattle.fields.specs.Patch.{patched}
 use Rattle.entry.specs.Slot.{readSlot, writeSlot}
 use Rattle.image.specs.Encode.{entrySize}
 use Rattle.image.specs.Groups.{byte, flag}
 use Rattle.player_abi.specs.Crossed.{answered}
-use Rattle.player_abi.specs.Rest.{waitAt, clockAt, lineAt, slotAt, keptAt, lengthAt, ticking, counting, resting, rested}
-
--- the first test fails, and the others are not asked
-pub short : (n : ℕ) (w : Bool) → (n ≡ 280 → ⊥) → false ≡ pick (eqb n 280) w false
-short n w h = rw (ne-eqb n 280 h) refl
-
--- it passes, and so do three others: what the last one says
-pub yes : (n : ℕ) {a b c r : Bool} (x y z w : Bool) → n ≡ 280 → a ≡ x → b ≡ y → c ≡ z → (a && b && c) ≡ true → r ≡ w
-    → r ≡ pick (eqb n 280) (pick (x && y && z) w false) false
-yes n x y z w l p q s t u =
-    let v : (x && y && z) ≡ true = (λ i. sym p i && sym q i && sym s i) ∙ t in
-    rw (eq-eqb n 280 l, v) u
-
-pub no : (n : ℕ) {a b c : Bool} (x y z w : Bool) → n ≡ 280 → a ≡ x → b ≡ y → c ≡ z → (a && b && c) ≡ false
-    → false ≡ pick (eqb n 280) (pick (x && y && z) w false) false
-no n x y z w l p q s t =
-    let v : (x && y && z) ≡ false = (λ i. sym p i && sym q i && sym s i) ∙ t in
-    rw (eq-eqb n 280 l, v) refl
+use Rattle.player_abi.specs.Rest.{ticking, counting, resting, rested}
+use Rattle.player_abi.specs.Way.{waitAt, clockAt, lineAt, slotAt, keptAt, lengthAt}
 
 pub ticking-by : (s : List ℕ) (nmi : Bool) (wait clock : ℕ) {a b c four : List ℕ} {left next : ℕ} → a ≡ patched s 56 (flag nmi) → left ≡ wait - 1
     → four ≡ le 4 left → b ≡ patched a 67 four → next ≡ (clock + 1) % 2 ^ 64 → c ≡ patched b 214 (le 8 next) → c ≡ ticking s nmi wait clock
@@ -51,13 +34,16 @@ pub quiet-by : (out : List ℕ) (held edge : Bool) {a b : List ℕ} → a ≡ pa
 unfolding answered
 quiet-by out held edge p q = q ∙ (λ i. patched (p i) 3 (replicate 55 0))
 
-pub rested-by : (s e out : List ℕ) {slot kept room wait clock was : ℕ} {nmi : Bool} {a b c d : List ℕ} → slot ≡ slotAt s → kept ≡ keptAt s → room ≡ lengthAt s
-    → wait ≡ waitAt s → clock ≡ clockAt s → nmi ≡ lineAt s → was ≡ getD s 56 0
-    → a ≡ writeSlot entrySize slot (readSlot entrySize 0 s) e → b ≡ ticking s nmi wait clock → c ≡ counting b slot kept room
-    → d ≡ answered (ltb 0 wait) (nmi && not (eqb was 1)) noLog out → resting c a d ≡ rested s e out
+pub rested-by : (s en out : List ℕ) {slot kept room wait clock : ℕ} {nmi : Bool} {e a b c d : List ℕ} → e ≡ readSlot entrySize 0 s → slot ≡ slotAt s
+    → kept ≡ keptAt s → room ≡ lengthAt s → wait ≡ waitAt e → clock ≡ clockAt e → nmi ≡ lineAt e
+    → a ≡ writeSlot entrySize slot e en → b ≡ ticking s nmi wait clock → c ≡ counting b slot kept room
+    → d ≡ answered (ltb 0 wait) (nmi && not (eqb (byteAt e 56) 1)) noLog out → resting c a d ≡ rested s en out
 unfolding rested
-rested-by s e out p q r t u v w x y z o =
+rested-by s en out x p q r t u v w y z o =
+    let wait = t ∙ ap waitAt x in
+    let clock = u ∙ ap clockAt x in
+    let nmi = v ∙ ap lineAt x in
     λ i.
-    resting ((z ∙ (λ j. counting ((y ∙ (λ k. ticking s (v k) (t k) (u k))) j) (p j) (q j) (r j))) i)
-    ((x ∙ (λ j. writeSlot entrySize (p j) (readSlot entrySize 0 s) e)) i)
-    ((o ∙ (λ j. answered (ltb 0 (t j)) (v j && not (eqb (w j) 1)) noLog out)) i)
+    resting ((z ∙ (λ j. counting ((y ∙ (λ k. ticking s (nmi k) (wait k) (clock k))) j) (p j) (q j) (r j))) i)
+    ((w ∙ (λ j. writeSlot entrySize (p j) (x j) en)) i)
+    ((o ∙ (λ j. answered (ltb 0 (wait j)) (nmi j && not (eqb (byteAt (x j) 56) 1)) noLog out)) i)

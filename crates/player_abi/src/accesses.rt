@@ -6,7 +6,7 @@ use bus::access::Access;
 use bus::access::Log;
 use fields::put;
 
-fn access_bytes(a: Access) -> [u8; 5]
+pub fn access_bytes(a: Access) -> [u8; 5]
     ensures { λ r. ⌜ r ≡ encAccess a ⌝ }
 {
     [

@@ -14,8 +14,9 @@ use crate::accesses::put_answer;
 use crate::bytes::bench_of;
 use crate::bytes::save;
 use crate::bytes::store;
+use crate::carry::carry;
 use crate::rest::rest;
-use crate::rest::restful_at;
+use crate::way::way_of;
 use fields::put;
 
 // A machine at power-on.
@@ -29,7 +30,8 @@ pub extern "C" fn cloverwain_fresh(machine: &mut [u8], length: usize, bitcycles:
     a.number
 }
 
-// One master cycle; `out` takes 58 bytes. Where the DMA unit only waits or is idle, the bytes change where they stand.
+// One master cycle; `out` takes 58 bytes. Where the DMA unit only waits, is idle, or moves a byte between memory and a port, the bytes
+// change where they stand.
 #[no_mangle]
 pub extern "C" fn cloverwain_cycle(
     machine: &mut [u8],
@@ -44,7 +46,7 @@ pub extern "C" fn cloverwain_cycle(
 ) -> u8
     ensures { λ r. ⌜ crossed r (now (machine .exit)) (now (low .exit)) (now (high .exit)) (now (entries .exit)) (now (out .exit)) ≡ cycleCrossed (now (machine .entry)) (now (out .entry)) (cycleCall (now (rom .entry)) (desk (benchOf (now (machine .entry))) (now (low .entry)) (now (high .entry)) (now (entries .entry))) event line timer) ⌝ }
 {
-    if restful_at(
+    let way = way_of(
         machine,
         low.len(),
         high.len(),
@@ -53,8 +55,13 @@ pub extern "C" fn cloverwain_cycle(
         event,
         line,
         timer,
-    ) {
+    );
+    if way == 1 {
         rest(machine, entries, out);
+        return 0;
+    }
+    if way == 2 {
+        carry(machine, low, high, entries, rom, out);
         return 0;
     }
     let b = bench_of(machine);

@@ -2,4 +2,6 @@
 pub mod accesses;
 pub mod bytes;
 pub mod calls;
+pub mod carry;
 pub mod rest;
+pub mod way;

@@ -4,8 +4,8 @@ use mathlib.Core.List.{[], _∷_}
 use mathlib.Core.Bool.{not}
 use Prim.Native.Nat.{_/_}
 use borrow.Author.Needs.{needs}
-use Rattle.player_abi.proofs.rest.lent_ok.Statement.{statement}
-use Rattle.player_abi.proofs.rest.lent_ok.Tie as tie
+use Rattle.player_abi.proofs.way.lent_ok.Statement.{statement}
+use Rattle.player_abi.proofs.way.lent_ok.Tie as tie
 
 banks-off-requires : tie.Need-banks-off-requires
 banks-off-requires c κs = search needs

@@ -1,0 +1,387 @@
+-- A byte moved on the machine's bytes where they stand is the cycle's own definition.
+use Prim.Native.Nat.{ℕ, zero, suc, _+_, _-_, _*_, _/_, _%_, _^_, _≤_, _<_, min}
+use mathlib.Core.Bool.{Bool, true, false, not, _&&_, _||_}
+use mathlib.Core.List.{List, [], _∷_}
+use mathlib.Core.Path.{_≡_, refl, sym, ap, _∙_, subst}
+use native.Mathlib.Omega.{arith}
+use borrow.Author.Tests.{eqb-true, not-true, leb-true, ltb-true, lt-leb}
+use lib.Dec.{T, eqb, leb, ltb}
+use lib.ListN.{length, getD, set, length-set}
+use Rattle.common.specs.Pick.{pick}
+use Rattle.common.specs.Range.{within}
+use Rattle.common.specs.Width.{Bytes}
+use Rattle.common.proofs.TableLaws.{pick-elim}
+use Rattle.bench.specs.Calls.{desk, cycleCall, cycleDone}
+use Rattle.bench.specs.Ring.{after, bench, noted}
+use Rattle.bus.specs.Access.{opened, registerRead}
+use Rattle.bus.specs.Route.{routeOf, placeOf}
+use Rattle.bus.specs.View.{channelOf, withChannel, withCore}
+use Rattle.bus.specs.World.{World, world}
+use Rattle.bus.specs.declared.access.Core.{Core}
+use Rattle.bus.specs.declared.route.Route.{Route}
+use Rattle.bus.specs.declared.route.Route.the-variants.{Bank7E, Bank7F, Data, Registers, Cartridge}
+use Rattle.decode.specs.Cases.{stateOf, progressOf}
+use Rattle.decode.specs.Decode.{channelAt, channelsAt, ioAt, dmaAt, boardAt, machineAt}
+use Rattle.dma.specs.Cycle.{Held, holding}
+use Rattle.dma.specs.General.{afterByte, onBanks}
+use Rattle.entry.specs.Entry.{written}
+use Rattle.entry.specs.Slot.{readSlot, writeSlot}
+use Rattle.fields.specs.Bytes.{byteAt}
+use Rattle.fields.specs.Little.{le, span, field}
+use Rattle.fields.specs.Patch.{patched}
+use Rattle.hdma.specs.Engine.{at, withWait, withProgress}
+use Rattle.hdma.specs.declared.engine.DmaCore.{DmaCore}
+use Rattle.image.specs.Encode.{entrySize, image, encOlds, encode}
+use Rattle.image.specs.Groups.{byte, flag}
+use Rattle.machine.specs.Cycle.{Turned, turnOf as turned, ticked, cycled}
+use Rattle.machine.specs.declared.event.Event.the-variants.{Nothing}
+use Rattle.ranges.specs.Entry.{entryOk}
+use Rattle.ranges.specs.Tests.{all}
+use Rattle.ranges.proofs.Tests.{Every, every}
+use Rattle.registers.specs.Channel.{noChannel}
+use Rattle.registers.specs.Groups.{withIo-channels, withDmaChannel-a1t, withDmaChannel-das}
+use Rattle.registers.specs.Read.{readByte}
+use Rattle.registers.specs.declared.Io.{Io}
+use Rattle.registers.specs.declared.channel.DmaChannel.{DmaChannel}
+use Rattle.registers.specs.declared.wm_address.WmAddress.{WmAddress}
+use Rattle.signals.specs.Flags.{nmiLine}
+use Rattle.state.specs.declared.Dma.{Dma}
+use Rattle.state.specs.declared.DmaProgress.{DmaProgress}
+use Rattle.state.specs.declared.DmaProgress.the-variants as progress
+use Rattle.state.specs.declared.DmaState.the-variants as state
+use Rattle.state.specs.declared.Machine.{Machine}
+use Rattle.transfer.specs.Bits.{flagOf, down}
+use Rattle.transfer.specs.Byte.{tripOf, moved, stepA1t, tripAt as busTrip, transferByte}
+use Rattle.transfer.specs.Pattern.{offsetOf, bAddress}
+use Rattle.transfer.specs.declared.byte.Trip.{Trip}
+use Rattle.wram.specs.Banks.{banks, peeked, poked}
+use Rattle.wram.specs.Olds.{noOlds, keptAt}
+use Rattle.wram.specs.declared.Olds.{Olds}
+use Rattle.player_abi.specs.Bytes.{benchOf, stored, saved}
+use Rattle.player_abi.specs.Carry.{wmaddBytes, a1tNext, movedLog, portByte, placeFor, byteBy, byteFrom, wmaddNext, writtenNext, afterMove, carrying, carried}
+use Rattle.player_abi.specs.Crossed.{crossed, answered, cycleCrossed}
+use Rattle.player_abi.specs.Rest.{counting, edgeAt}
+use Rattle.player_abi.specs.Way.{waitAt, clockAt, lineAt, calmTests, waitingAt, baseAt, dmapAt, a1tAt, a1bAt, dasAt, portAt, tripAt, memory, dueTests, tripTests, turnOf, slotAt, keptAt as countAt, lengthAt, wayOf}
+use Rattle.player_abi.proofs.BytesLaws.{left-of, right-of, b, bytes-are, idle, one, two, runs, call-is, goes}
+use Rattle.player_abi.proofs.MoveLaws.{silent, port-route, port-silent, nextWm, movedIo, movedWorld, readOf, leaves, plain-move, channel-moves, moves}
+use Rattle.player_abi.proofs.QuietLaws.{unit-cycle}
+
+-- ---- the byte
+
+-- a byte of a span
+getD-span : (n : ℕ) (e : List ℕ) (k i : ℕ) → i < n → getD (span n e k) i 0 ≡ byteAt e (k + i)
+getD-span zero e k i h = absurd (omega (arith, h))
+getD-span (suc n) e k zero h = ap (λ (j : ℕ). byteAt e j) (omega arith)
+getD-span (suc n) e k (suc i) h = getD-span n e (k + 1) i (omega (arith, h)) ∙ ap (λ (j : ℕ). byteAt e j) (omega arith)
+
+-- a test that says where a number is
+where-in : (l h a : ℕ) → within l h a ≡ true → (l ≤ a) × (a < h)
+where-in l h a = go (leb l a) refl
+  where
+    go : (c : Bool) → leb l a ≡ c → pick c (ltb a h) false ≡ true → (l ≤ a) × (a < h)
+    go true q r = (leb-true l a q, ltb-true a h r)
+    go false q r = absurd (subst T (sym r) tt)
+
+module _ (e rom : List ℕ) where
+  abbrev io : Io
+  io = ioAt e
+
+  from-memory : (r : Route) (c a v : ℕ) → memory r ≡ true → byteBy e rom r c a v ≡ registerRead rom io r c a v .byte
+  unfolding registerRead ioAt
+  from-memory Bank7E c a v h = refl
+  from-memory Bank7F c a v h = refl
+  from-memory Data c a v h = cc
+  from-memory Registers c a v h = cc
+  from-memory Cartridge c a v h = refl
+
+  module _ (p : ℕ) (low : 0x2100 ≤ p) (high : p < 0x2200) where
+    -- PPU, APU or open bus, as the registers have it
+    from-register : portByte e p ≡ readByte io p
+    unfolding ioAt
+    from-register = go (within 0x2134 0x2140 p) (within 0x2140 0x2180 p) refl refl
+      where
+        go : (x y : Bool) → within 0x2134 0x2140 p ≡ x → within 0x2140 0x2180 p ≡ y
+            → pick x (byteAt e (194 + (p - 0x2134))) (pick y (byteAt e (206 + p % 4)) (byteAt e 25))
+            ≡ pick x (getD (span 12 e 194) (p - 0x2134) 0) (pick y (getD (span 4 e 206) (p % 4) 0) (silent io p))
+        go true y q r =
+            let w = where-in 0x2134 0x2140 p q in
+            sym (getD-span 12 e 194 (p - 0x2134) (omega (arith, w .0, w .1)))
+        go false true q r = sym (getD-span 4 e 206 (p % 4) (omega arith))
+        go false false q r = sym (port-silent p low high io)
+
+    from-port : (v : ℕ) → byteBy e rom (routeOf 0 p) 0 p v ≡ registerRead rom io (routeOf 0 p) 0 p v .byte
+    unfolding registerRead
+    from-port v = rw (port-route p low high) (go (eqb p 0x2180))
+      where
+        go : (c : Bool) → byteBy e rom (pick c Data Registers) 0 p v ≡ registerRead rom io (pick c Data Registers) 0 p v .byte
+        go true = refl
+        go false = from-register
+
+-- ---- the image
+
+-- a list of four
+four : (l : List ℕ) → length l ≡ 4 → l ≡ getD l 0 0 ∷ getD l 1 0 ∷ getD l 2 0 ∷ getD l 3 0 ∷ []
+four [] h = absurd (omega (arith, h))
+four (x ∷ []) h = absurd (omega (arith, h))
+four (x ∷ y ∷ []) h = absurd (omega (arith, h))
+four (x ∷ y ∷ z ∷ []) h = absurd (omega (arith, h))
+four (x ∷ y ∷ z ∷ w ∷ []) h = refl
+four (x ∷ y ∷ z ∷ w ∷ q ∷ l) h = absurd (omega (arith, h))
+
+abbrev inProgress : Machine → DmaProgress → Machine
+inProgress m p = record { io = m .io; dma = withProgress (m .dma) p; board = m .board }
+
+-- a channel with its A1T and DAS moved on
+abbrev movedOn : DmaChannel → ℕ → ℕ → DmaChannel
+movedOn c a d = withDmaChannel-das (withDmaChannel-a1t c a) d
+
+-- the machine that a byte leaves
+abbrev movedFrom : Machine → WmAddress → ℕ → List ℕ → Bool → (ch next i a d : ℕ) → Machine
+movedFrom m w v apu nmi ch next i a d =
+    record {
+      io = withIo-channels (movedIo (m .io) w v apu) (set (m .io .channels) i (movedOn (getD (m .io .channels) i noChannel) a d));
+      dma = withWait (withProgress (m .dma) (progress.At ch next)) 7;
+      board = ticked (m .board) nmi;
+    }
+
+-- its bytes laid over others
+abbrev laid : List ℕ → WmAddress → ℕ → List ℕ → Bool → (clock next base a d : ℕ) → List ℕ
+laid x w v apu nmi clock next base a d =
+    let registers = patched (patched x 0 (wmaddBytes w)) 25 (byte v) in
+    let unit = patched (patched (patched registers 56 (flag nmi)) 63 (le 4 next)) 67 (le 4 7) in
+    let channel = patched (patched unit (base + 2) (le 2 a)) (base + 5) (le 2 d) in
+    patched (patched channel 210 apu) 214 (le 8 clock)
+
+module _ (x : List ℕ) (w : WmAddress) (v a0 a1 a2 a3 : ℕ) (nmi : Bool) (ch u next a d : ℕ) where
+  abbrev written4 : List ℕ
+  written4 = a0 ∷ a1 ∷ a2 ∷ a3 ∷ []
+
+  -- laid over the image of a machine they are the image of the machine left
+  abbrev Lays : ℕ → Type 0
+  Lays i =
+      laid (encode (inProgress (machineAt x) (progress.At ch u)) noOlds) w v written4 nmi ((clockAt x + 1) % 2 ^ 64) next (98 + 12 * i) a d
+      ≡ encode (movedFrom (machineAt x) w v written4 nmi ch next i a d) noOlds
+
+  lays : (i : ℕ) → i < 8 → Lays i
+  unfolding encode image machineAt ioAt dmaAt boardAt channelsAt
+  lays zero h = refl
+  lays (suc zero) h = refl
+  lays (suc (suc zero)) h = refl
+  lays (suc (suc (suc zero))) h = refl
+  lays (suc (suc (suc (suc zero)))) h = refl
+  lays (suc (suc (suc (suc (suc zero))))) h = refl
+  lays (suc (suc (suc (suc (suc (suc zero)))))) h = refl
+  lays (suc (suc (suc (suc (suc (suc (suc zero))))))) h = refl
+  lays (suc (suc (suc (suc (suc (suc (suc (suc i)))))))) h = absurd (omega (arith, h))
+
+-- a channel of an image
+channel-in : (x : List ℕ) (i : ℕ) → i < 8 → getD (channelsAt x) i noChannel ≡ channelAt x (98 + 12 * i)
+unfolding channelsAt
+channel-in x zero h = refl
+channel-in x (suc zero) h = refl
+channel-in x (suc (suc zero)) h = refl
+channel-in x (suc (suc (suc zero))) h = refl
+channel-in x (suc (suc (suc (suc zero)))) h = refl
+channel-in x (suc (suc (suc (suc (suc zero))))) h = refl
+channel-in x (suc (suc (suc (suc (suc (suc zero)))))) h = refl
+channel-in x (suc (suc (suc (suc (suc (suc (suc zero))))))) h = refl
+channel-in x (suc (suc (suc (suc (suc (suc (suc (suc i)))))))) h = absurd (omega (arith, h))
+
+-- old bytes laid over the entry without any
+with-olds : (m : Machine) (o : Olds) → patched (encode m noOlds) 222 (encOlds o) ≡ encode m o
+unfolding encode image
+with-olds m o = refl
+
+-- ---- the cycle
+
+module _ (s : List ℕ) (fit : Bytes s) (ok : entryOk (readSlot entrySize 0 s) ≡ true) (calm : Every (calmTests (readSlot entrySize 0 s)))
+    (due : Every (dueTests (readSlot entrySize 0 s))) (plain : Every (tripTests (readSlot entrySize 0 s))) where
+  abbrev e : List ℕ
+  e = readSlot entrySize 0 s
+
+  abbrev m : Machine
+  m = machineAt e
+
+  -- the channel, its place among the eight, and the unit
+  abbrev ch : ℕ
+  ch = byteAt e 62
+
+  abbrev nth : ℕ
+  nth = ch % 8
+
+  abbrev unit : ℕ
+  unit = field 4 e 63
+
+  abbrev next : ℕ
+  next = (unit + 1) % 2 ^ 32
+
+  abbrev c : DmaChannel
+  c = getD (m .io .channels) nth noChannel
+
+  channel-is : c ≡ channelAt e (baseAt e)
+  unfolding machineAt ioAt
+  channel-is = channel-in e nth (omega arith)
+
+  low : 0x2100 ≤ portAt e
+  low = omega arith
+
+  high : portAt e < 0x2200
+  high = omega arith
+
+  -- a general transfer, that moves a byte of this channel
+  wait-is : m .dma .wait ≡ 0
+  unfolding machineAt dmaAt
+  wait-is = eqb-true (waitAt e) 0 (due .0)
+
+  pending-is : m .dma .pending ≡ false
+  unfolding machineAt dmaAt
+  pending-is = ap (λ (n : ℕ). eqb n 1) (eqb-true (byteAt e 71) 0 (due .1 .0))
+
+  state-is : m .dma .state ≡ state.Dma
+  unfolding machineAt dmaAt
+  state-is = ap stateOf (eqb-true (byteAt e 59) 2 (due .1 .1 .0))
+
+  progress-is : m .dma .progress ≡ progress.At ch unit
+  unfolding machineAt dmaAt
+  progress-is = ap (λ (n : ℕ). progressOf n ch unit) (eqb-true (byteAt e 61) 1 (due .1 .1 .1 .0))
+
+  das-is : eqb (down 65536 (c .das)) 0 ≡ false
+  unfolding channelAt
+  das-is = ap (λ (x : DmaChannel). eqb (down 65536 (x .das)) 0) channel-is ∙ not-true (eqb (down 65536 (dasAt e)) 0) (due .1 .1 .1 .1 .0)
+
+  -- WMADD, the bytes at the APU, A1T and DAS after it
+  abbrev wm : WmAddress
+  wm = nextWm (portAt e) (m .io .wmadd)
+
+  abbrev apu : ℕ → List ℕ
+  apu v = pick (not (flagOf (dmapAt e) 0x80) && leb 0x2140 (portAt e) && ltb (portAt e) 0x2180) (set (m .io .ports .written) (portAt e % 4) v) (m .io .ports .written)
+
+  abbrev left : ℕ → Machine
+  left v = movedFrom m wm v (apu v) (nmiLine (m .io)) ch next nth (a1tNext (c .dmap) (c .a1t)) (down 65536 (c .das))
+
+  apu-four : (v : ℕ) → length (apu v) ≡ 4
+  unfolding machineAt ioAt
+  apu-four v =
+      pick-elim (λ (l : List ℕ). length l ≡ 4) (not (flagOf (dmapAt e) 0x80) && leb 0x2140 (portAt e) && ltb (portAt e) 0x2180)
+      (length-set (span 4 e 210) (portAt e % 4) v) refl
+
+  -- the bytes after it are the image of the machine after it
+  image-is : (v : ℕ) → afterMove e v ≡ encode (left v) noOlds
+  unfolding afterMove wmaddNext writtenNext machineAt ioAt boardAt channelAt
+  image-is v =
+      let l = apu v in
+      let at4 = four l (apu-four v) in
+      let clock = (clockAt e + 1) % 2 ^ 64 in
+      let before : e ≡ encode (inProgress m (progress.At ch unit)) noOlds = sym (bytes-are s fit ok calm) ∙ (λ i. encode (inProgress m (progress-is i)) noOlds) in
+      (λ i.
+      laid (before i) wm v (at4 i) (lineAt e) clock next (baseAt e) (a1tNext (sym channel-is i .dmap) (sym channel-is i .a1t)) (down 65536 (sym channel-is i .das)))
+      ∙ lays e wm v (getD l 0 0) (getD l 1 0) (getD l 2 0) (getD l 3 0) (lineAt e) ch unit next (a1tNext (c .dmap) (c .a1t)) (down 65536 (c .das)) nth (omega arith)
+      ∙ (λ i. encode (movedFrom m wm v (sym at4 i) (lineAt e) ch next nth (a1tNext (c .dmap) (c .a1t)) (down 65536 (c .das))) noOlds)
+
+  module _ (rom l h : List ℕ) where
+    abbrev trip : Trip
+    trip = tripAt e
+
+    -- the byte, as the bus reads it
+    abbrev v : ℕ
+    v = readOf rom (m .io) l h (trip .source .bank) (trip .source .addr) .byte
+
+    byte-is : byteFrom e rom l h (trip .source .bank) (trip .source .addr) ≡ v
+    unfolding byteFrom placeFor tripOf machineAt ioAt
+    byte-is = go (flagOf (dmapAt e) 0x80)
+      where
+        go : (d : Bool)
+            → (let t : Trip = pick d (record { source = record { bank = 0; addr = portAt e }; target = record { bank = a1bAt e; addr = a1tAt e } }) (record { source = record { bank = a1bAt e; addr = a1tAt e }; target = record { bank = 0; addr = portAt e } }) in
+            byteFrom e rom l h (t .source .bank) (t .source .addr) ≡ readOf rom (m .io) l h (t .source .bank) (t .source .addr) .byte)
+        go true = from-port e rom (portAt e) low high (peeked (banks l h) (placeFor e 0 (portAt e)))
+        go false = from-memory e rom (routeOf (a1bAt e) (a1tAt e)) (a1bAt e) (a1tAt e) (peeked (banks l h) (placeFor e (a1bAt e) (a1tAt e))) (plain .0)
+
+    -- what the bus is left with
+    abbrev bus : World
+    bus = leaves rom (m .io) l h (portAt e) (flagOf (dmapAt e) 0x80) trip v
+
+    moved-is : moved rom (world (opened (m .io)) l h) (busTrip (world (opened (m .io)) l h) ch unit) ≡ bus
+    unfolding opened channelOf channelAt
+    moved-is =
+        (λ i.
+        let x = channel-is i in
+        moved rom (world (opened (m .io)) l h) (tripOf (x .dmap) (x .a1b) (x .a1t) (bAddress (x .bbad) (offsetOf (x .dmap) unit))))
+        ∙ plain-move rom (m .io) l h (dmapAt e) (a1bAt e) (a1tAt e) (portAt e) low high (plain .0) (plain .1 .0)
+
+    -- and the unit with the channel's registers
+    abbrev unitLeft : DmaCore
+    unitLeft =
+        record {
+          core = withChannel (bus .core) ch (movedOn c (a1tNext (c .dmap) (c .a1t)) (down 65536 (c .das)));
+          dma = withWait (withProgress (m .dma) (progress.At ch next)) 7;
+        }
+
+    eight : length (m .io .channels) ≡ 8
+    unfolding machineAt ioAt channelsAt
+    eight = refl
+
+    stepped-is : (let w = transferByte rom (world (opened (m .io)) l h) ch unit in onBanks w (afterByte (w .core) (m .dma) ch unit)) ≡ onBanks bus unitLeft
+    unfolding transferByte opened channelOf
+    stepped-is =
+        (λ i. let x = moved-is i in onBanks x (afterByte (stepA1t (x .core) ch (c .dmap)) (m .dma) ch unit))
+        ∙ (λ i. onBanks bus (channel-moves (bus .core) ch eight (m .dma) unit das-is i))
+
+    -- the whole cycle
+    abbrev turn : Turned
+    turn = turned (holding (onBanks bus unitLeft)) m (nmiLine (m .io))
+
+    ends : cycled rom m l h Nothing false false ≡ turn
+    ends =
+        unit-cycle rom m l h (idle s fit ok calm) (one s fit ok calm) (two s fit ok calm) (runs s fit ok calm)
+        ∙ ap (λ (x : Held). turned x m (nmiLine (m .io)))
+        (moves rom (world (opened (m .io)) l h) (m .dma) ch unit wait-is pending-is state-is progress-is ∙ ap holding stepped-is)
+
+    module _ (en out : List ℕ) where
+      crossed-is : crossed 0 (carried rom s l h en out .machine) (carried rom s l h en out .low) (carried rom s l h en out .high) (carried rom s l h en out .entries) (carried rom s l h en out .out)
+          ≡ cycleCrossed s out (cycleDone (desk (b s fit ok calm) l h en) turn)
+      unfolding carried placeFor saved stored counting noted written withChannel machineAt boardAt ioAt
+      crossed-is =
+          let place = placeFor e (trip .target .bank) (trip .target .addr) in
+          let olds = keptAt noOlds (banks l h) place in
+          let laidOver : List ℕ → List ℕ = λ (x : List ℕ). counting (writeSlot entrySize 0 x s) (slotAt s) (countAt s) (lengthAt s) in
+          let entry : patched e 222 (encOlds olds) ≡ encode m olds = ap (λ (x : List ℕ). patched x 222 (encOlds olds)) (sym (bytes-are s fit ok calm)) ∙ with-olds m olds in
+          (λ i.
+          let x = byte-is i in
+          let ram = poked (banks l h) place x in
+          crossed 0 (laidOver (afterMove e x)) (ram .low) (ram .high) (writeSlot entrySize (slotAt s) (entry i) en) (answered true (edgeAt e) (movedLog trip x) out))
+          ∙ (λ i.
+          let ram = poked (banks l h) place v in
+          crossed 0 (laidOver (image-is v i)) (ram .low) (ram .high) (writeSlot entrySize (slotAt s) (encode m olds) en) (answered true (edgeAt e) (movedLog trip v) out))
+
+-- of the turns, a byte moved is 2
+abbrev turnBy : Bool → Bool → ℕ
+turnBy w t = pick w 1 (pick t 2 0)
+
+moves-two : (w t : Bool) → turnBy w t ≡ 2 → t ≡ true
+moves-two true t q = absurd (omega (arith, q))
+moves-two false true q = refl
+moves-two false false q = absurd (omega (arith, q))
+
+-- ---- the law
+
+pub carry-by : (rom s l h en out : List ℕ) (event : ℕ) (line timer : Bool) → Bytes s
+    → wayOf s (length l) (length h) (length en) (length rom) event line timer ≡ 2
+    → crossed 0 (carried rom s l h en out .machine) (carried rom s l h en out .low) (carried rom s l h en out .high) (carried rom s l h en out .entries) (carried rom s l h en out .out)
+    ≡ cycleCrossed s out (cycleCall rom (desk (benchOf s) l h en) event line timer)
+unfolding turnOf
+carry-by rom s l h en out event line timer fit way =
+    let g = goes s (length l) (length h) (length en) (length rom) event line timer 2 (omega arith) way in
+    let x = readSlot entrySize 0 s in
+    let both = moves-two (waitingAt x) (all (dueTests x) && all (tripTests x)) (g .turn) in
+    let due = every (dueTests x) (left-of (all (dueTests x)) (all (tripTests x)) both) in
+    let plain = every (tripTests x) (right-of (all (dueTests x)) (all (tripTests x)) both) in
+    crossed-is s fit (g .ok) (g .calm) due plain rom l h en out
+    ∙ ap (λ (t : Turned). cycleCrossed s out (cycleDone (desk (b s fit (g .ok) (g .calm)) l h en) t)) (sym (ends s fit (g .ok) (g .calm) due plain rom l h))
+    ∙ ap (cycleCrossed s out) (sym (call-is s fit (g .ok) (g .calm) rom l h en (g .lent) event line timer (g .plain)))
+
+-- the same of what the code leaves
+pub carry-crossed : (rom s l h en out : List ℕ) (event : ℕ) (line timer : Bool) {way : ℕ} {m l2 h2 e o : List ℕ} → Bytes s
+    → way ≡ wayOf s (length l) (length h) (length en) (length rom) event line timer → way ≡ 2 → carrying m l2 h2 e o ≡ carried rom s l h en out
+    → crossed 0 m l2 h2 e o ≡ cycleCrossed s out (cycleCall rom (desk (benchOf s) l h en) event line timer)
+carry-crossed rom s l h en out event line timer fit p q r =
+    (λ i. crossed 0 (r i .machine) (r i .low) (r i .high) (r i .entries) (r i .out)) ∙ carry-by rom s l h en out event line timer fit (sym p ∙ q)

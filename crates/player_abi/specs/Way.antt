@@ -1,0 +1,138 @@
+-- Which way an exported cycle goes, said of the machine's bytes: the DMA unit waits or has nothing to do; it moves one byte of a general
+-- transfer between memory and a port of the B bus; or anything else happens. The first two are made on the bytes (Rest, Carry), and that
+-- this is what a cycle does there is proved (proofs/RestLaws.antt, CarryLaws.antt).
+use Prim.Native.Nat.{ℕ, _+_, _-_, _*_, _/_, _%_}
+use mathlib.Core.Bool.{Bool, true, false, not, _&&_, _||_}
+use mathlib.Core.List.{List, [], _∷_}
+use lib.Bits.{bitAnd}
+use lib.Dec.{eqb, leb, ltb}
+use lib.ListN.{length}
+use Rattle.common.specs.Pick.{pick}
+use Rattle.bench.specs.Refusal.{banksOff, recordOff, romOff}
+use Rattle.bus.specs.Route.{routeOf}
+use Rattle.bus.specs.declared.route.Route.{Route}
+use Rattle.bus.specs.declared.route.Route.the-variants.{Bank7E, Bank7F, Data, Registers, Cartridge}
+use Rattle.entry.specs.Slot.{readSlot}
+use Rattle.fields.specs.Bytes.{byteAt}
+use Rattle.fields.specs.Little.{field}
+use Rattle.image.specs.Encode.{entrySize}
+use Rattle.ranges.specs.Entry.{entryOk}
+use Rattle.ranges.specs.Tests.{all}
+use Rattle.transfer.specs.Bits.{flagOf, down}
+use Rattle.transfer.specs.Byte.{tripOf}
+use Rattle.transfer.specs.Pattern.{offsetOf, bAddress}
+use Rattle.transfer.specs.declared.byte.Trip.{Trip}
+
+-- work RAM or the cartridge
+abbrev pub memory : Route → Bool
+memory Bank7E = true
+memory Bank7F = true
+memory Data = false
+memory Registers = false
+memory Cartridge = true
+
+module _ (e : List ℕ) where
+  -- the wait, the clock and the NMI line
+  abbrev pub waitAt : ℕ
+  waitAt = field 4 e 67
+
+  abbrev pub clockAt : ℕ
+  clockAt = field 8 e 214
+
+  abbrev pub lineAt : Bool
+  lineAt = not (eqb (bitAnd (byteAt e 4) 0x80) 0) && not (eqb (bitAnd (byteAt e 22) 0x80) 0)
+
+  -- both ports' buttons are those of the pad words
+  abbrev pub pressedTests : List Bool
+  pressedTests =
+      eqb (bitAnd (field 2 e 52) (65535 - 15)) (field 2 e 42) ∷ eqb (bitAnd (field 2 e 54) (65535 - 15)) (field 2 e 48) ∷ []
+
+  -- no automatic read; no new button; no general transfer to start; no old byte; the clock not at its end
+  abbrev pub calmTests : List Bool
+  calmTests =
+      eqb (byteAt e 34) 0
+      ∷ all pressedTests
+      ∷ (eqb (byteAt e 60) 1 || eqb (byteAt e 15) 0)
+      ∷ eqb (byteAt e 222) 0
+      ∷ not (eqb clockAt 18446744073709551615)
+      ∷ []
+
+  -- a wait; or the unit is idle and no pass pending
+  abbrev pub waitingAt : Bool
+  waitingAt = ltb 0 waitAt || (eqb (byteAt e 71) 0 && eqb (byteAt e 59) 0)
+
+  -- the channel in progress: where its registers stand, and DMAP, A1T, its bank and DAS there
+  abbrev pub baseAt : ℕ
+  baseAt = 98 + 12 * (byteAt e 62 % 8)
+
+  abbrev pub dmapAt : ℕ
+  dmapAt = byteAt e baseAt
+
+  abbrev pub a1tAt : ℕ
+  a1tAt = field 2 e (baseAt + 2)
+
+  abbrev pub a1bAt : ℕ
+  a1bAt = byteAt e (baseAt + 4)
+
+  abbrev pub dasAt : ℕ
+  dasAt = field 2 e (baseAt + 5)
+
+  -- the port on the B side, and where the byte comes from and goes to
+  abbrev pub portAt : ℕ
+  portAt = bAddress (byteAt e (baseAt + 1)) (offsetOf dmapAt (field 4 e 63))
+
+  abbrev pub tripAt : Trip
+  tripAt = tripOf dmapAt a1bAt a1tAt portAt
+
+  -- no wait, no pass pending, a general transfer with a channel in progress, and not its last byte
+  abbrev pub dueTests : List Bool
+  dueTests =
+      eqb waitAt 0
+      ∷ eqb (byteAt e 71) 0
+      ∷ eqb (byteAt e 59) 2
+      ∷ eqb (byteAt e 61) 1
+      ∷ not (eqb (down 65536 dasAt) 0)
+      ∷ []
+
+  -- the A side leads to memory; the byte does not go to $2181-$2183
+  abbrev pub tripTests : List Bool
+  tripTests = memory (routeOf a1bAt a1tAt) ∷ (flagOf dmapAt 0x80 || not (leb 0x2181 portAt && ltb portAt 0x2184)) ∷ []
+
+  -- 1 a cycle that waits, 2 a byte moved, 0 anything else
+  unfoldable pub turnOf : ℕ
+  turnOf = pick waitingAt 1 (pick (all dueTests && all tripTests) 2 0)
+
+  -- and that only of an image in the ranges
+  unfoldable pub kindOf : ℕ
+  kindOf = pick (all calmTests) (pick (entryOk e) turnOf 0) 0
+
+-- the record's counts
+abbrev pub slotAt : List ℕ → ℕ
+slotAt s = field 8 s 256
+
+abbrev pub keptAt : List ℕ → ℕ
+keptAt s = field 8 s 264
+
+abbrev pub lengthAt : List ℕ → ℕ
+lengthAt s = field 8 s 272
+
+-- what is lent, and the counts, are in order
+abbrev pub lentTests : (low high room rom fresh slot kept : ℕ) → List Bool
+lentTests low high room rom fresh slot kept =
+    not (banksOff low high)
+    ∷ not (recordOff room fresh)
+    ∷ not (romOff rom)
+    ∷ not (leb (fresh / 256) slot)
+    ∷ not (ltb (fresh / 256) kept)
+    ∷ []
+
+-- no event, no line due, no timer hit
+abbrev pub plainTests : ℕ → Bool → Bool → List Bool
+plainTests event line timer = eqb event 0 ∷ not line ∷ not timer ∷ []
+
+-- the bytes of one machine and an accepted cycle: 1 or 2 as above, and 0 is no promise
+unfoldable pub wayOf : List ℕ → (low high room rom event : ℕ) → Bool → Bool → ℕ
+wayOf s low high room rom event line timer =
+    pick (eqb (length s) 280)
+    (pick (all (plainTests event line timer) && all (lentTests low high room rom (lengthAt s) (slotAt s) (keptAt s)))
+    (kindOf (readSlot entrySize 0 s)) 0) 0

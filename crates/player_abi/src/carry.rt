@@ -1,0 +1,243 @@
+// One byte of a general transfer, moved between memory and a port of the B bus on the machine's bytes where they stand.
+ghost use mathlib.Core.Bool.{true};
+ghost use mathlib.Core.Path.{_≡_};
+ghost use denote.Ref.{now};
+ghost use Rattle.entry.specs.Slot.{writeSlot};
+ghost use Rattle.fields.specs.Little.{le};
+ghost use Rattle.fields.specs.Patch.{patched};
+ghost use Rattle.image.specs.Encode.{entrySize, encOlds};
+ghost use Rattle.image.specs.Groups.{bytes};
+ghost use Rattle.player_abi.specs.Carry.{portByte, byteFrom, placeFor, wmaddBytes, wmaddNext, a1tNext, writtenNext, afterMove, movedLog, carrying, carried};
+ghost use Rattle.player_abi.specs.Crossed.{answered};
+use crate::accesses::access_bytes;
+use crate::bytes::kept_at;
+use crate::bytes::length_at;
+use crate::bytes::put_eight;
+use crate::bytes::slot_at;
+use crate::rest::count;
+use crate::rest::four_bytes;
+use crate::rest::put_slot;
+use crate::way::base_at;
+use crate::way::clock_at;
+use crate::way::line_at;
+use crate::way::port_at;
+use crate::way::trip_at;
+use bus::access::Access;
+use bus::route::Route;
+use bus::route::place_of;
+use bus::route::route_of;
+use decode::register_file::wmadd_at;
+use decode::register_file::word_at;
+use entry::slot_bytes;
+use fields::join4;
+use fields::put;
+use image::ENTRY_SIZE;
+use image::olds::olds_bytes;
+use image::register_file::bank_byte;
+use registers::wm_address::WmAddress;
+use registers::wm_address::inc;
+use transfer::bits::dec16;
+use transfer::bits::flag;
+use transfer::bits::inc16;
+use transfer::byte::Trip;
+use wram::Olds;
+use wram::Place;
+use wram::keep_old;
+use wram::no_olds;
+use wram::peek;
+use wram::poke;
+
+// What a port of the B bus answers; where none does, the open bus.
+fn port_byte(e: [u8; ENTRY_SIZE], addr: u16) -> u8
+    ensures { λ r. ⌜ r ≡ portByte e addr ⌝ }
+{
+    if addr < 0x2134 {
+        return e[25];
+    }
+    if addr < 0x2140 {
+        let i = (addr - 0x2134) as usize;
+        return e[194 + i];
+    }
+    if addr < 0x2180 {
+        let i = (addr % 4) as usize;
+        return e[206 + i];
+    }
+    e[25]
+}
+
+// The byte of work RAM behind an address, if it has one.
+fn place_for(e: [u8; ENTRY_SIZE], bank: u8, addr: u16) -> Place
+    ensures { λ r. ⌜ r ≡ placeFor e bank addr ⌝ }
+{
+    let wmadd = wmadd_at(e);
+    let way = route_of(bank, addr);
+    place_of(wmadd, way, addr)
+}
+
+fn fetch(
+    e: [u8; ENTRY_SIZE],
+    low: &[u8],
+    high: &[u8],
+    rom: &[u8],
+    bank: u8,
+    addr: u16,
+) -> u8
+    ensures { λ r. ⌜ r ≡ byteFrom e (now (rom .entry)) (now (low .entry)) (now (high .entry)) bank addr ⌝ }
+{
+    let place = place_for(e, bank, addr);
+    let held = peek(low, high, place);
+    let way = route_of(bank, addr);
+    match way {
+        Route::Bank7E => held,
+        Route::Bank7F => held,
+        Route::Data => held,
+        Route::Registers => port_byte(e, addr),
+        Route::Cartridge => cartridge::read(rom, bank, addr, e[25]),
+    }
+}
+
+// The machine before the byte, and the byte of work RAM that it replaces.
+fn note(entries: &mut [u8], slot: usize, e: [u8; ENTRY_SIZE], olds: Olds)
+    ensures { λ _. ⌜ now (entries .exit) ≡ writeSlot entrySize slot (patched e 222 (encOlds olds)) (now (entries .entry)) ⌝ }
+{
+    let mut x = e;
+    let b = olds_bytes(olds);
+    put(&mut x, 222, &b);
+    put_slot(entries, slot, x);
+}
+
+// $2180 takes WMADD one byte on.
+fn next_wmadd(e: [u8; ENTRY_SIZE]) -> WmAddress
+    ensures { λ r. ⌜ r ≡ wmaddNext e ⌝ }
+{
+    let wmadd = wmadd_at(e);
+    if port_at(e) == 0x2180 {
+        return inc(wmadd);
+    }
+    wmadd
+}
+
+fn wmadd_bytes(w: WmAddress) -> [u8; 3]
+    ensures { λ r. ⌜ r ≡ wmaddBytes w ⌝ }
+{
+    let k = w.bank;
+    let bank = bank_byte(k);
+    [bank, (w.addr % 256) as u8, (w.addr / 256 % 256) as u8]
+}
+
+// Bit 3 of DMAP holds A1T, else bit 4 takes it down.
+fn next_a1t(dmap: u8, a1t: u16) -> u16
+    ensures { λ r. ⌜ r ≡ a1tNext dmap a1t ⌝ }
+{
+    if flag(dmap, 0x08) {
+        return a1t;
+    }
+    if flag(dmap, 0x10) {
+        return dec16(a1t);
+    }
+    inc16(a1t)
+}
+
+fn two_bytes(n: u16) -> [u8; 2]
+    ensures { λ r. ⌜ r ≡ le 2 n ⌝ }
+{
+    [(n % 256) as u8, (n / 256 % 256) as u8]
+}
+
+// The bytes last written to the APU.
+fn next_written(e: [u8; ENTRY_SIZE], byte: u8) -> [u8; 4]
+    ensures { λ r. ⌜ r ≡ writtenNext e byte ⌝ }
+{
+    let mut w = [e[210], e[211], e[212], e[213]];
+    let base = base_at(e);
+    let port = port_at(e);
+    if !flag(e[base], 0x80) & (0x2140 <= port) & (port < 0x2180) {
+        let i = (port % 4) as usize;
+        w[i] = byte;
+        return w;
+    }
+    w
+}
+
+// The image once the byte has moved: WMADD, open bus, NMI line, progress and wait, the channel's A1T and DAS, APU ports, clock.
+fn after_move(e: [u8; ENTRY_SIZE], byte: u8) -> [u8; ENTRY_SIZE]
+    ensures { λ r. ⌜ r ≡ afterMove e byte ⌝ }
+{
+    let base = base_at(e);
+    let mut x = e;
+    let wmadd = next_wmadd(e);
+    let w = wmadd_bytes(wmadd);
+    put(&mut x, 0, &w);
+    let open = [byte];
+    put(&mut x, 25, &open);
+    let line = [line_at(e) as u8];
+    put(&mut x, 56, &line);
+    let unit = std::num::wrapping_add_u32(join4(e[63], e[64], e[65], e[66]), 1);
+    let steps = four_bytes(unit);
+    put(&mut x, 63, &steps);
+    let wait = four_bytes(7);
+    put(&mut x, 67, &wait);
+    let a = next_a1t(e[base], word_at(e, base + 2));
+    let a1t = two_bytes(a);
+    put(&mut x, base + 2, &a1t);
+    let d = dec16(word_at(e, base + 5));
+    let das = two_bytes(d);
+    put(&mut x, base + 5, &das);
+    let written = next_written(e, byte);
+    put(&mut x, 210, &written);
+    let clock = std::num::wrapping_add_u64(clock_at(e), 1);
+    put_eight(&mut x, 214, clock as usize);
+    x
+}
+
+// Two accesses, the read and the write of the byte.
+fn put_moved(out: &mut [u8], edge: bool, trip: Trip, byte: u8)
+    ensures { λ _. ⌜ now (out .exit) ≡ answered true edge (movedLog trip byte) (now (out .entry)) ⌝ }
+{
+    let head = [1, edge as u8, 2];
+    put(out, 0, &head);
+    let from = access_bytes(Access {
+        write: false,
+        bank: trip.source.bank,
+        addr: trip.source.addr,
+        byte: byte,
+    });
+    let to = access_bytes(Access {
+        write: true,
+        bank: trip.target.bank,
+        addr: trip.target.addr,
+        byte: byte,
+    });
+    let mut b = [0u8; 55];
+    put(&mut b, 0, &from);
+    put(&mut b, 5, &to);
+    put(out, 3, &b);
+}
+
+pub fn carry(
+    machine: &mut [u8],
+    low: &mut [u8],
+    high: &mut [u8],
+    entries: &mut [u8],
+    rom: &[u8],
+    out: &mut [u8],
+)
+    ensures { λ _. ⌜ carrying (now (machine .exit)) (now (low .exit)) (now (high .exit)) (now (entries .exit)) (now (out .exit)) ≡ carried (now (rom .entry)) (now (machine .entry)) (now (low .entry)) (now (high .entry)) (now (entries .entry)) (now (out .entry)) ⌝ }
+{
+    let e = slot_bytes(machine, 0);
+    let slot = slot_at(machine);
+    let kept = kept_at(machine);
+    let length = length_at(machine);
+    let trip = trip_at(e);
+    let byte = fetch(e, low, high, rom, trip.source.bank, trip.source.addr);
+    let place = place_for(e, trip.target.bank, trip.target.addr);
+    let none = no_olds();
+    let olds = keep_old(none, low, high, place);
+    poke(low, high, place, byte);
+    note(entries, slot as usize, e, olds);
+    let after = after_move(e, byte);
+    put_slot(machine, 0, after);
+    count(machine, slot as usize, kept as usize, length as usize);
+    let nmi = line_at(e);
+    put_moved(out, nmi & !(e[56] == 1), trip, byte);
+}

@@ -1,14 +1,12 @@
 -- The fill over a bank, byte by byte.
 use Prim.Native.Nat.{ℕ, zero, suc, _+_, _%_, _≤_, _<_}
-use mathlib.Core.Bool.{Bool, true, false}
 use mathlib.Core.List.{List, [], _∷_, _++_, append-assoc, append-nil}
 use mathlib.Core.Path.{_≡_, refl, sym, ap, _∙_}
 use native.Mathlib.Numerals.{add-one}
 use native.Mathlib.Omega.{arith}
-use lib.Dec.{eqb}
-use lib.ListN.{length, getD, drop, set, length-append, drop-of-length-le, List·getD-append}
-use lib.Seq.{drop-cons, set-at, getD-at}
-use borrow.Author.Tests.{eq-eqb, ne-eqb, eqb-true, eqb-false}
+use lib.ListN.{length, getD, drop, set, length-append, drop-of-length-le}
+use lib.Seq.{drop-cons, set-at}
+use borrow.Author.Tests.{eq-eqb, ne-eqb}
 use Rattle.lines.specs.Fill.{repeated, filled}
 
 module _ (fill : List ℕ) where
@@ -16,24 +14,6 @@ module _ (fill : List ℕ) where
   unfolding repeated
   repeated-length zero = refl
   repeated-length (suc n) = let h = repeated-length n in simp length-append (omega arith)
-
-  at-byte : (n i : ℕ) → i < suc n → (i < n → getD (repeated fill n) i 0 ≡ getD fill (i % length fill) 0) → (t : Bool) → eqb i n ≡ t
-      → getD (repeated fill (suc n)) i 0 ≡ getD fill (i % length fill) 0
-  unfolding repeated
-  at-byte n i h ih true e =
-      let x = getD fill (n % length fill) 0 in
-      rw (eqb-true i n e) (getD-at (repeated fill n) x [] 0 n (repeated-length n))
-  at-byte n i h ih false e =
-      let ne = eqb-false i n e in
-      let k = repeated-length n in
-      let lt : i < n = omega (arith, ne) in
-      List·getD-append (repeated fill n) _ 0 i (omega arith) ∙ ih lt
-
-  -- every byte is the fill's byte i mod its length
-  pub repeated-byte : (n i : ℕ) → i < n → getD (repeated fill n) i 0 ≡ getD fill (i % length fill) 0
-  unfolding repeated
-  repeated-byte zero i h = absurd (omega arith)
-  repeated-byte (suc n) i h = at-byte n i h (repeated-byte n i) (eqb i n) refl
 
   pub fill-start : (b : List ℕ) → b ≡ repeated fill 0 ++ drop 0 b
   unfolding repeated

@@ -1,5 +1,5 @@
 -- How the record's slots go round: after and before are inverse, and how far one slot stands behind another.
-use Prim.Native.Nat.{ℕ, zero, suc, _+_, _-_, _<_}
+use Prim.Native.Nat.{ℕ, zero, suc, _+_, _<_}
 use mathlib.Core.Logic.{_≢_, _⊎_, inl, inr}
 use mathlib.Core.Path.{_≡_}
 use native.Mathlib.Decide.{decLt}

@@ -2,10 +2,6 @@ use Rattle.bus.specs.Access.{opened}
 use borrow.Author.Needs.{needs}
 use Rattle.bus.proofs.access.opened_core.Statement.{statement}
 use Rattle.bus.proofs.access.opened_core.Tie as tie
-use Rattle.bus.proofs.access.opened_core.Reads as reads
-use Rattle.bus.proofs.access.opened_core.Lts as lts
-use Rattle.bus.proofs.access.no_log.Reads as no-log-reads
-use Rattle.wram.proofs.no_olds.Reads as no-olds-reads
 
 -- src/access.rt:73:9
 no-log-requires : tie.Need-no-log-requires

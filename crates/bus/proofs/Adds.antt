@@ -10,7 +10,7 @@ use Rattle.common.proofs.FillLaws.{Grows, grows-none, grows-trans, grows-more, 
 use Rattle.registers.specs.declared.Io.{Io}
 use Rattle.registers.specs.declared.channel.DmaChannel.{DmaChannel}
 use Rattle.registers.specs.declared.pads.Pads.{Pads}
-use Rattle.registers.proofs.PadsLaws.{Undisturbed, read-leaves, write-leaves}
+use Rattle.registers.proofs.PadsLaws.{Undisturbed, still, read-leaves, write-leaves}
 use Rattle.wram.specs.Banks.{Banks, banks, peeked}
 use Rattle.wram.specs.Olds.{noOld, noOlds, putBack, backFrom}
 use Rattle.wram.proofs.KeepLaws.{GrowsOlds, keep-grows}
@@ -43,9 +43,6 @@ pub record Adds (a o : ℕ) (w w′ : World) : Type 0 where
   pub high : length (w′ .ram .high) ≡ length (w .ram .high)
   pub undo : kept w + o ≤ 4 → length (w .core .olds .items) ≡ 4 → putBack (w′ .core .olds) (w′ .ram) ≡ putBack (w .core .olds) (w .ram)
   pub pads : Undisturbed (w .core .io .pads) (w′ .core .io .pads)
-
-still : {p : Pads} → Undisturbed p p
-still = record { auto = refl; buttons = record { one = refl; two = refl } }
 
 still-trans : {p q r : Pads} → Undisturbed p q → Undisturbed q r → Undisturbed p r
 still-trans x y =

@@ -1,3 +1,4 @@
 pub mod Join
 pub mod Adds
+pub mod Channels
 pub mod FitLaws

@@ -6,7 +6,7 @@ use lib.ListN.{length}
 use Rattle.bus.specs.View.{channelOf, withChannel}
 use Rattle.bus.specs.declared.access.Core.{Core}
 use Rattle.common.specs.Pick.{pick}
-use Rattle.fullsnes.proofs.Views.{channel-put}
+use Rattle.bus.proofs.Channels.{channel-put}
 use Rattle.registers.specs.Groups.{withDmaChannel-a1t}
 use Rattle.transfer.specs.Bits.{flagOf}
 use Rattle.transfer.specs.Byte.{stepA1t}

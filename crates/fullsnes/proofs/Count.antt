@@ -11,7 +11,7 @@ use Rattle.bus.specs.declared.access.Core.{Core}
 use Rattle.common.proofs.TableLaws.{pick-elim, pick-case, pick-map}
 use Rattle.common.specs.Pick.{pick}
 use Rattle.dma.specs.General.{afterByte}
-use Rattle.fullsnes.proofs.Views.{channel-put}
+use Rattle.bus.proofs.Channels.{channel-put}
 use Rattle.fullsnes.specs.Said.{bytesOf, dasAfter, Lasts}
 use Rattle.hdma.specs.declared.engine.DmaCore.{DmaCore}
 use Rattle.registers.specs.Groups.{withDmaChannel-das}

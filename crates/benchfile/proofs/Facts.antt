@@ -1,13 +1,12 @@
 -- What file check asks, fact by fact.
 use Prim.Native.Nat.{ℕ, _≤_}
-use mathlib.Core.Bool.{true, _&&_}
+use mathlib.Core.Bool.{true, _&&_, and-eq-true-iff}
 use mathlib.Core.List.{List}
 use mathlib.Core.Path.{_≡_}
 use lib.Dec.{leb, eqb}
 use lib.ListN.{length}
 use borrow.Author.Tests.{le-leb, eq-eqb, leb-true, eqb-true}
 use Rattle.benchfile.specs.File.{startOf, sizeOf, endOf, bodyOf, adjoin, chained, sized, scriptFormed, sound}
-use Rattle.benchfile.proofs.Tests.{both}
 
 -- `sound`, test by test
 pub record Facts (f : List ℕ) : Type 0 where
@@ -27,16 +26,16 @@ module _ (f : List ℕ) where
   pub facts : sound f ≡ true → Facts f
   unfolding sound chained sized
   facts h =
-      let (a, rows) = both (leb 32 (length f) && leb (length f) 65536 && chained f && sized f) (scriptFormed (bodyOf f 3)) h in
-      let (b, sizes) = both (leb 32 (length f) && leb (length f) 65536 && chained f) (sized f) a in
-      let (c, bodies) = both (leb 32 (length f) && leb (length f) 65536) (chained f) b in
-      let (contents, short) = both (leb 32 (length f)) (leb (length f) 65536) c in
-      let (d, most) = both (eqb (sizeOf f 0) 2 && leb 1 (sizeOf f 1)) (leb (sizeOf f 1) 4096) sizes in
-      let (two, least) = both (eqb (sizeOf f 0) 2) (leb 1 (sizeOf f 1)) d in
-      let (e, last) = both (eqb (startOf f 0) 32 && adjoin f 0 1 && adjoin f 1 2 && adjoin f 2 3) (eqb (endOf f 3) (length f)) bodies in
-      let (g, fourth) = both (eqb (startOf f 0) 32 && adjoin f 0 1 && adjoin f 1 2) (adjoin f 2 3) e in
-      let (i, third) = both (eqb (startOf f 0) 32 && adjoin f 0 1) (adjoin f 1 2) g in
-      let (first, second) = both (eqb (startOf f 0) 32) (adjoin f 0 1) i in
+      let (a, rows) = and-eq-true-iff (leb 32 (length f) && leb (length f) 65536 && chained f && sized f) (scriptFormed (bodyOf f 3)) .0 h in
+      let (b, sizes) = and-eq-true-iff (leb 32 (length f) && leb (length f) 65536 && chained f) (sized f) .0 a in
+      let (c, bodies) = and-eq-true-iff (leb 32 (length f) && leb (length f) 65536) (chained f) .0 b in
+      let (contents, short) = and-eq-true-iff (leb 32 (length f)) (leb (length f) 65536) .0 c in
+      let (d, most) = and-eq-true-iff (eqb (sizeOf f 0) 2 && leb 1 (sizeOf f 1)) (leb (sizeOf f 1) 4096) .0 sizes in
+      let (two, least) = and-eq-true-iff (eqb (sizeOf f 0) 2) (leb 1 (sizeOf f 1)) .0 d in
+      let (e, last) = and-eq-true-iff (eqb (startOf f 0) 32 && adjoin f 0 1 && adjoin f 1 2 && adjoin f 2 3) (eqb (endOf f 3) (length f)) .0 bodies in
+      let (g, fourth) = and-eq-true-iff (eqb (startOf f 0) 32 && adjoin f 0 1 && adjoin f 1 2) (adjoin f 2 3) .0 e in
+      let (i, third) = and-eq-true-iff (eqb (startOf f 0) 32 && adjoin f 0 1) (adjoin f 1 2) .0 g in
+      let (first, second) = and-eq-true-iff (eqb (startOf f 0) 32) (adjoin f 0 1) .0 i in
       record {
         contents = leb-true 32 (length f) contents;
         short = leb-true (length f) 65536 short;

@@ -1,6 +1,5 @@
 pub mod Parts
 pub mod Zeros
-pub mod Tests
 pub mod Rows
 pub mod Numbers
 pub mod Found

@@ -1,6 +1,6 @@
 -- A row and its bytes, there and back.
 use Prim.Native.Nat.{ℕ, _%_, _<_}
-use mathlib.Core.Bool.{true, false, _&&_, and-true}
+use mathlib.Core.Bool.{true, false, _&&_, and-true, and-eq-true-iff}
 use mathlib.Core.List.{List, [], _∷_}
 use mathlib.Core.Path.{_≡_, refl, sym, subst, _∙_}
 use native.Mathlib.Omega.{arith}
@@ -24,7 +24,6 @@ use Rattle.benchfile.specs.Row.{zeros, formTable, formedRow, fieldTable,
 use Rattle.benchfile.proofs.Numbers.{lo-back, hi-back, flags-small, due-back, timer-back, flags-back}
 use Rattle.benchfile.proofs.Parts.{listed}
 use Rattle.benchfile.proofs.Zeros.{are}
-use Rattle.benchfile.proofs.Tests.{both}
 use Rattle.benchfile.proofs.Found.{Holds, found}
 
 pub eight : (r : Row) → length (bytesOf r) ≡ 8
@@ -88,8 +87,8 @@ module _ (b₀ b₁ b₂ b₃ b₄ b₅ b₆ b₇ : ℕ) (l₁ : b₁ < 256) (l�
   of-kind : Holds (formTable given) b₀ → bytesOf (fieldsOf given) ≡ given
   unfolding fieldsOf bytesOf
   of-kind (inl (k, h)) =
-      let p = both (leb 1 (field 2 given 1) && leb b₄ 3) (zeros given 5) h in
-      let q = both (leb 1 (field 2 given 1)) (leb b₄ 3) (p .0) in
+      let p = and-eq-true-iff (leb 1 (field 2 given 1) && leb b₄ 3) (zeros given 5) .0 h in
+      let q = and-eq-true-iff (leb 1 (field 2 given 1)) (leb b₄ 3) .0 (p .0) in
       let e : b₀ ≡ 1 = k in
       rw (e, are (b₅ ∷ b₆ ∷ b₇ ∷ []) (p .1), lo-back b₁ b₂ l₁, hi-back b₁ b₂ l₁, low₂, flags-back b₄ (leb-true b₄ 3 (q .1)))
   of-kind (inr (inl (k, h))) =
@@ -102,15 +101,15 @@ module _ (b₀ b₁ b₂ b₃ b₄ b₅ b₆ b₇ : ℕ) (l₁ : b₁ < 256) (l�
       let e : b₀ ≡ 4 = k in
       rw (e, are (b₄ ∷ b₅ ∷ b₆ ∷ b₇ ∷ []) h, lo-back b₂ b₃ l₂, hi-back b₂ b₃ l₂, low₃)
   of-kind (inr (inr (inr (inr (inl (k, h)))))) =
-      let p = both (leb b₂ 1) (zeros given 3) h in
+      let p = and-eq-true-iff (leb b₂ 1) (zeros given 3) .0 h in
       let e : b₀ ≡ 5 = k in
       rw (e, are (b₃ ∷ b₄ ∷ b₅ ∷ b₆ ∷ b₇ ∷ []) (p .1), flag-back b₂ (leb-true b₂ 1 (p .0)))
   of-kind (inr (inr (inr (inr (inr (inl (k, h))))))) =
-      let p = both (eqb b₁ 0) (zeros given 5) h in
+      let p = and-eq-true-iff (eqb b₁ 0) (zeros given 5) .0 h in
       let e : b₀ ≡ 6 = k in
       rw (e, eqb-true b₁ 0 (p .0), are (b₅ ∷ b₆ ∷ b₇ ∷ []) (p .1), lo-back b₂ b₃ l₂, hi-back b₂ b₃ l₂, low₃)
   of-kind (inr (inr (inr (inr (inr (inr (inl (k, h)))))))) =
-      let p = both (leb 1 (field 2 given 1)) (zeros given 3) h in
+      let p = and-eq-true-iff (leb 1 (field 2 given 1)) (zeros given 3) .0 h in
       let e : b₀ ≡ 7 = k in
       rw (e, are (b₃ ∷ b₄ ∷ b₅ ∷ b₆ ∷ b₇ ∷ []) (p .1), lo-back b₁ b₂ l₁, hi-back b₁ b₂ l₁, low₂)
   of-kind (inr (inr (inr (inr (inr (inr (inr n))))))) = absurd n
@@ -120,7 +119,7 @@ module _ (b : List ℕ) where
   pub bytes-row : Bytes b → formedRow b ≡ true → bytesOf (rowOf b) ≡ b
   unfolding formedRow
   bytes-row small h =
-      let p = both (eqb (length b) 8) (find (formTable b) (byteAt b 0) false) h in
+      let p = and-eq-true-iff (eqb (length b) 8) (find (formTable b) (byteAt b 0) false) .0 h in
       let n : length b ≡ 8 = eqb-true (length b) 8 (p .0) in
       let e : span 8 b 0 ≡ b = sym (listed 8 b 0 (omega arith)) ∙ take-all 8 b (omega arith) in
       let kept : Holds (formTable b) (byteAt b 0) = found (formTable b) (byteAt b 0) (p .1) in

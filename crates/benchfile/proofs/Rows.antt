@@ -1,6 +1,6 @@
 -- The rows of a script, one by one.
 use Prim.Native.Nat.{ℕ, zero, suc, _+_, _/_, _%_, _≤_, _<_}
-use mathlib.Core.Bool.{true, false, false≢true}
+use mathlib.Core.Bool.{Bool, true, false, false≢true, and-eq-true-iff}
 use mathlib.Core.List.{List}
 use mathlib.Core.Logic.{⊎-elim}
 use mathlib.Core.Path.{_≡_, refl, sym, _∙_}
@@ -13,7 +13,11 @@ use borrow.Author.Tests.{eq-eqb, ne-eqb, eqb-true}
 use Rattle.benchfile.specs.declared.row.Row.the-variants.{Broken}
 use Rattle.benchfile.specs.Row.{formedRow, rowBytes, rowAt}
 use Rattle.benchfile.specs.File.{rowsFormed, scriptFormed}
-use Rattle.benchfile.proofs.Tests.{both, fails}
+
+-- a test that does not hold fails
+fails : (a : Bool) → (a ≡ true → ⊥) → a ≡ false
+fails true h = absurd (h refl)
+fails false h = refl
 
 module _ (s : List ℕ) where
   pub none : rowsFormed s 0 ≡ true
@@ -29,7 +33,7 @@ module _ (s : List ℕ) where
   unfolding rowsFormed
   each zero i h p = absurd (omega arith)
   each (suc n) i h p =
-      let q = both (rowsFormed s n) (formedRow (rowBytes s n)) p in
+      let q = and-eq-true-iff (rowsFormed s n) (formedRow (rowBytes s n)) .0 p in
       let l : i ≤ n = omega arith in
       ⊎-elim (λ (e : i ≡ n). rw e (q .1)) (λ (m : i < n). each n i m (q .0)) (eq-or-lt-of-le l)
 
@@ -54,7 +58,7 @@ module _ (s : List ℕ) where
   pub script : scriptFormed s ≡ true → (length s % 8 ≡ 0) × ((i : ℕ) → i < length s / 8 → formedRow (rowBytes s i) ≡ true)
   unfolding scriptFormed
   script h =
-      let p = both (eqb (length s % 8) 0) (rowsFormed s (length s / 8)) h in
+      let p = and-eq-true-iff (eqb (length s % 8) 0) (rowsFormed s (length s / 8)) .0 h in
       (eqb-true (length s % 8) 0 (p .0), λ i l. each (length s / 8) i l (p .1))
 
 module _ (s : List ℕ) (rows : length s % 8 ≡ 0) where

@@ -1,5 +1,5 @@
 -- A script and its rows, there and back.
-use Prim.Native.Nat.{ℕ, zero, suc, _+_, _*_, _/_, _%_, _≤_, _<_}
+use Prim.Native.Nat.{ℕ, zero, suc, _+_, _*_, _/_, _≤_, _<_}
 use mathlib.Core.Bool.{true}
 use mathlib.Core.List.{List, [], _∷_, _++_}
 use mathlib.Core.Path.{_≡_, refl, sym, ap, _∙_}
@@ -87,11 +87,8 @@ module _ (s : List ℕ) (small : Bytes s) where
 
 -- a well-formed script is that of its rows, and each of them can stand in one
 module _ (s : List ℕ) (small : Bytes s) (h : scriptFormed s ≡ true) where
-  abbrev whole-rows : (length s % 8 ≡ 0) × ((i : ℕ) → i < length s / 8 → formedRow (rowBytes s i) ≡ true)
-  whole-rows = script s h
-
   pub script-back : scriptOf (rowsOf s) ≡ s
-  script-back = rest-back s small (length s / 8) 0 (omega (arith, whole-rows .0)) (λ j l. whole-rows .1 j (omega arith))
+  script-back = rest-back s small (length s / 8) 0 (omega (arith, script s h .0)) (λ j l. script s h .1 j (omega arith))
 
   pub rows-lawful : Lawful (rowsOf s)
-  rows-lawful = rest-lawful s small (length s / 8) 0 (λ j l. whole-rows .1 j (omega arith))
+  rows-lawful = rest-lawful s small (length s / 8) 0 (λ j l. script s h .1 j (omega arith))

@@ -1,6 +1,6 @@
 -- The bytes from a place on, looked at one by one.
 use Prim.Native.Nat.{ℕ, _+_, _≤_, _<_}
-use mathlib.Core.Bool.{true, false}
+use mathlib.Core.Bool.{true, false, and-eq-true-iff}
 use mathlib.Core.List.{List, [], _∷_}
 use mathlib.Core.Path.{_≡_, refl, ap}
 use native.Mathlib.Numerals.{add-one}
@@ -10,12 +10,11 @@ use lib.Seq.{drop-cons}
 use borrow.Author.Tests.{eq-eqb, ne-eqb, eqb-true}
 use Rattle.fields.specs.Bytes.{byteAt}
 use Rattle.benchfile.specs.Row.{allZero, zeros}
-use Rattle.benchfile.proofs.Tests.{both}
 
 pub are : (l : List ℕ) → allZero l ≡ true → l ≡ replicate (length l) 0
 are [] h = refl
 are (x ∷ l) h =
-    let p = both (eqb x 0) (allZero l) h in
+    let p = and-eq-true-iff (eqb x 0) (allZero l) .0 h in
     rw (eqb-true x 0 (p .0)) (ap (λ (t : List ℕ). 0 ∷ t) (are l (p .1)))
 
 module _ (b : List ℕ) (i : ℕ) where

@@ -1,13 +1,12 @@
 -- Text before whose characters nothing is completed and no file name is read: only the last one can add to a buffer.
 use Prim.Native.Nat.{ℕ}
-use mathlib.Core.Bool.{Bool, true, false, not, _&&_, false≢true}
+use mathlib.Core.Bool.{Bool, true, false, not, _&&_, false≢true, and-eq-true-iff}
 use mathlib.Core.List.{List, [], _∷_}
 use mathlib.Core.Path.{_≡_, refl, sym, ap, _∙_}
 use lib.Dec.{eqb}
 use borrow.Author.Tests.{eqb-true}
 use Rattle.common.specs.Pick.{pick}
 use Rattle.append.specs.Sheet.{Sheet, puts}
-use Rattle.benchfile.proofs.Tests.{both}
 use Rattle.reader.specs.declared.reader.Reader.{Reader}
 use Rattle.reader.specs.Word.{blankWord}
 use Rattle.reader.specs.Draft.{draft}
@@ -58,7 +57,7 @@ module _ (q : Reader) (fine : eqb (q .draft .emit) 8 ≡ false) where
         → pick b (quietly (readOf r c) t) loud ≡ q
         → runs file (stepped file (added file f o s r) c) t ≡ added file f o s q
     quiet-run r c t true z ih e =
-        ap (λ (k : State). runs file (stepped file k c) t) (silent r (eqb-true (r .draft .emit) 0 (both (eqb (r .draft .emit) 0) (not (eqb (r .word .form) 8)) z .0)))
+        ap (λ (k : State). runs file (stepped file k c) t) (silent r (eqb-true (r .draft .emit) 0 (and-eq-true-iff (eqb (r .draft .emit) 0) (not (eqb (r .word .form) 8)) .0 z .0)))
         ∙ ap (λ (k : State). runs file k t) (one file f o s r c)
         ∙ ih e
     quiet-run r c t false z ih e = not-loud e

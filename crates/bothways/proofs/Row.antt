@@ -1,6 +1,6 @@
 -- Every row of document 01's form comes back from its line of text.
 use Prim.Native.Nat.{ℕ, zero, suc, _≤_, _<_}
-use mathlib.Core.Bool.{Bool, true, false, _&&_}
+use mathlib.Core.Bool.{Bool, true, false, _&&_, and-eq-true-iff}
 use mathlib.Core.List.{List, [], _∷_}
 use mathlib.Core.Logic.{inl, inr}
 use mathlib.Core.Path.{_≡_, refl, sym, subst, _∙_}
@@ -20,7 +20,6 @@ use Rattle.benchfile.specs.Row.{allZero, zeros, formTable, formedRow, rowOf, by
 use Rattle.benchfile.proofs.RowBytes.{bytes-row}
 use Rattle.reader.specs.Draft.{draft}
 use Rattle.assembler.specs.Desk.{scriptOf}
-use Rattle.benchfile.proofs.Tests.{both}
 use Rattle.benchfile.proofs.Found.{Holds, found}
 use Rattle.benchfile.proofs.Parts.{listed}
 use Rattle.benchfile.proofs.Numbers.{lo-back, hi-back}
@@ -49,16 +48,16 @@ module _ (k x₁ x₂ x₃ x₄ : ℕ) (p : ℕ) (o : Open p) where
 
     -- the first of bytes that are all zero
     head : (x : ℕ) (l : List ℕ) → allZero (x ∷ l) ≡ true → x ≡ 0
-    head x l h = eqb-true x 0 (both (eqb x 0) (allZero l) h .0)
+    head x l h = eqb-true x 0 (and-eq-true-iff (eqb x 0) (allZero l) .0 h .0)
 
     second : (x y : ℕ) (l : List ℕ) → allZero (x ∷ y ∷ l) ≡ true → y ≡ 0
-    second x y l h = head y l (both (eqb x 0) (allZero (y ∷ l)) h .1)
+    second x y l h = head y l (and-eq-true-iff (eqb x 0) (allZero (y ∷ l)) .0 h .1)
 
     of-kind : Holds (formTable given) b₀ → quietly (before p k x₁ x₂ x₃ x₄ 0) (rowText given) ≡ before 4 b₀ b₁ b₂ b₃ b₄ 3
     unfolding rowText
     of-kind (inl (q, h)) =
-        let r = both (leb 1 (field 2 given 1) && leb b₄ 3) (zeros given 5) h in
-        let s = both (leb 1 (field 2 given 1)) (leb b₄ 3) (r .0) in
+        let r = and-eq-true-iff (leb 1 (field 2 given 1) && leb b₄ 3) (zeros given 5) .0 h in
+        let s = and-eq-true-iff (leb 1 (field 2 given 1)) (leb b₄ 3) .0 (r .0) in
         let z : b₀ ≡ 1 = q in
         let c = cycles.cycles-back (field 2 given 1) b₃ b₄ (leb-true 1 (field 2 given 1) (s .0)) (omega arith) l₃ (flags-of b₄ (leb-true b₄ 3 (s .1))) k x₁ x₂ x₃ x₄ p o in
         rw z (c ∙ rw (lo-back b₁ b₂ l₁, hi-back b₁ b₂ l₁))
@@ -74,7 +73,7 @@ module _ (k x₁ x₂ x₃ x₄ : ℕ) (p : ℕ) (o : Open p) where
         let y : b₄ ≡ 0 = head b₄ (b₅ ∷ b₆ ∷ b₇ ∷ []) h in
         rw (z, y) (pad-back b₁ l₁ b₂ b₃ k x₁ x₂ x₃ x₄ l₂ l₃ p o)
     of-kind (inr (inr (inr (inr (inl (q, h)))))) =
-        let r = both (leb b₂ 1) (zeros given 3) h in
+        let r = and-eq-true-iff (leb b₂ 1) (zeros given 3) .0 h in
         let z : b₀ ≡ 5 = q in
         let y : b₃ ≡ 0 = head b₃ (b₄ ∷ b₅ ∷ b₆ ∷ b₇ ∷ []) (r .1) in
         let w : b₄ ≡ 0 = second b₃ b₄ (b₅ ∷ b₆ ∷ b₇ ∷ []) (r .1) in
@@ -82,12 +81,12 @@ module _ (k x₁ x₂ x₃ x₄ : ℕ) (p : ℕ) (o : Open p) where
         let t : b₂ ≡ bit (s .0) = sym (s .1) in
         rw (z, y, w, t) (plug-back b₁ l₁ (s .0) k x₁ x₂ x₃ x₄ p o)
     of-kind (inr (inr (inr (inr (inr (inl (q, h))))))) =
-        let r = both (eqb b₁ 0) (zeros given 5) h in
+        let r = and-eq-true-iff (eqb b₁ 0) (zeros given 5) .0 h in
         let z : b₀ ≡ 6 = q in
         let y : b₁ ≡ 0 = eqb-true b₁ 0 (r .0) in
         rw (z, y) (answer-back 0 b₂ b₃ (omega arith) l₂ l₃ b₄ k x₁ x₂ x₃ x₄ l₄ p o)
     of-kind (inr (inr (inr (inr (inr (inr (inl (q, h)))))))) =
-        let r = both (leb 1 (field 2 given 1)) (zeros given 3) h in
+        let r = and-eq-true-iff (leb 1 (field 2 given 1)) (zeros given 3) .0 h in
         let z : b₀ ≡ 7 = q in
         let y : b₃ ≡ 0 = head b₃ (b₄ ∷ b₅ ∷ b₆ ∷ b₇ ∷ []) (r .1) in
         let w : b₄ ≡ 0 = second b₃ b₄ (b₅ ∷ b₆ ∷ b₇ ∷ []) (r .1) in
@@ -100,7 +99,7 @@ module _ (k x₁ x₂ x₃ x₄ : ℕ) (p : ℕ) (o : Open p) where
       → quietly (before p k x₁ x₂ x₃ x₄ 0) (rowText b) ≡ before 4 (byteAt b 0) (byteAt b 1) (byteAt b 2) (byteAt b 3) (byteAt b 4) 3
   unfolding formedRow
   row-quiet b small h =
-      let q = both (eqb (length b) 8) (find (formTable b) (byteAt b 0) false) h in
+      let q = and-eq-true-iff (eqb (length b) 8) (find (formTable b) (byteAt b 0) false) .0 h in
       let n : length b ≡ 8 = eqb-true (length b) 8 (q .0) in
       let w : span 8 b 0 ≡ b = sym (listed 8 b 0 (omega arith)) ∙ take-all 8 b (omega arith) in
       let kept : Holds (formTable b) (byteAt b 0) = found (formTable b) (byteAt b 0) (q .1) in

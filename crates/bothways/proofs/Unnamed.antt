@@ -1,6 +1,6 @@
 -- Texts without a file name.
 use Prim.Native.Nat.{ℕ, _+_}
-use mathlib.Core.Bool.{Bool, true, false, not}
+use mathlib.Core.Bool.{Bool, true, false, not, and-eq-true-iff}
 use mathlib.Core.List.{List, [], _∷_, _++_}
 use mathlib.Core.Path.{_≡_, refl, sym, subst}
 use native.Mathlib.Omega.{arith}
@@ -8,7 +8,6 @@ use borrow.Author.Tests.{not-true}
 use lib.Dec.{eqb}
 use lib.ListN.{length}
 use Rattle.common.specs.Pick.{pick}
-use Rattle.benchfile.proofs.Tests.{both}
 use Rattle.reader.specs.declared.reader.Reader.{Reader}
 use Rattle.reader.specs.Reader.{readOf, reads, untilOf, unnamedOf}
 use Rattle.assembler.specs.Desk.{State, stepped, runs}
@@ -58,7 +57,7 @@ module _ (q : Reader) (fine : eqb (q .draft .emit) 8 ≡ false) where
   quiet-step : (r : Reader) (c : ℕ) (t : List ℕ) (b : Bool) → calm r ≡ b → (quietly (readOf r c) t ≡ q → Unnamed (readOf r c) t)
       → pick b (quietly (readOf r c) t) loud ≡ q → Unnamed r (c ∷ t)
   quiet-step r c t true z ih e =
-      unnamed-next r c t (not-true (eqb (r .word .form) 8) (both (eqb (r .draft .emit) 0) (not (eqb (r .word .form) 8)) z .1)) (ih e)
+      unnamed-next r c t (not-true (eqb (r .word .form) 8) (and-eq-true-iff (eqb (r .draft .emit) 0) (not (eqb (r .word .form) 8)) .0 z .1)) (ih e)
   quiet-step r c t false z ih e = not-loud q fine e
 
   pub quietly-unnamed : (r : Reader) (t : List ℕ) → quietly r t ≡ q → Unnamed r t

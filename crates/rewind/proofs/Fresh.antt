@@ -4,7 +4,7 @@ use mathlib.Core.Bool.{Bool, true, false, not, _||_}
 use mathlib.Core.Logic.{_≢_}
 use mathlib.Core.Path.{_≡_, refl, sym, _∙_}
 use native.Mathlib.Omega.{arith}
-use borrow.Author.Tests.{eqb-true, eqb-false, ltb-false}
+use borrow.Author.Tests.{eqb-true, eqb-false, ltb-false, not-false}
 use lib.Dec.{eqb, ltb}
 use Rattle.bench.specs.Calls.{emptyBench, freshCall}
 use Rattle.bench.specs.Refusal.{lengthOff, bitsOff, freshNumber}
@@ -32,10 +32,6 @@ or-right : (a b : Bool) → (a || b) ≡ false → b ≡ false
 or-right true true e = e
 or-right true false e = refl
 or-right false b e = e
-
-not-false : (b : Bool) → not b ≡ false → b ≡ true
-not-false true e = refl
-not-false false e = sym e
 
 positive : (n : ℕ) → n ≢ 0 → 1 ≤ n
 positive zero h = absurd (h refl)

@@ -1,8 +1,10 @@
 // Bytes put one after the other into a lent buffer. Where it has no more room, bytes are dropped and the place stays at its end.
 pub mod number;
 
+ghost use Prim.Native.Nat.{_+_};
 ghost use mathlib.Core.Path.{_≡_};
 ghost use denote.Ref.{now};
+ghost use lib.Dec.{leb};
 ghost use Rattle.append.specs.Sheet.{sheet, push, puts};
 
 // One byte; answers the place behind it.
@@ -28,4 +30,14 @@ pub fn put(out: &mut [u8], at: usize, src: &[u8]) -> usize
         i += 1;
     }
     to
+}
+
+// Whether `need` more bytes have room behind the `used` ones.
+pub fn has_room(used: usize, need: usize, room: usize) -> bool
+    ensures { λ r. ⌜ r ≡ leb (used + need) room ⌝ }
+{
+    if room < need {
+        return false;
+    }
+    if used <= room - need { true } else { false }
 }

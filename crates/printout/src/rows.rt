@@ -1,11 +1,11 @@
 // The rows of a script one by one, as many as a buffer takes the lines of.
 ghost use mathlib.Core.Path.{_≡_};
-ghost use Prim.Native.Nat.{_+_, _/_};
+ghost use Prim.Native.Nat.{_/_};
 ghost use denote.Ref.{now};
-ghost use lib.Dec.{leb};
 ghost use lib.ListN.{length};
 ghost use Rattle.printout.specs.Rows.{standing, start, stepped, steps};
 use crate::row::run_line;
+use append::has_room;
 use bench::Bench;
 use benchfile::part::part;
 
@@ -17,17 +17,7 @@ pub struct Stand {
     pub used: usize,
 }
 
-// No line is longer than 105 bytes.
-fn takes_line(used: usize, room: usize) -> bool
-    ensures { λ r. ⌜ r ≡ leb (used + 105) room ⌝ }
-{
-    if room < 105 {
-        return false;
-    }
-    if used <= room - 105 { true } else { false }
-}
-
-// One row more, unless there is none, one was refused, or its line might have no room.
+// One row more, unless there is none, one was refused, or its line, of 105 bytes at most, might have no room.
 fn step(
     s: Stand,
     low: &mut [u8],
@@ -48,7 +38,7 @@ fn step(
     if s.number != 0 {
         return s;
     }
-    if !takes_line(s.used, out.len()) {
+    if !has_room(s.used, 105, out.len()) {
         return s;
     }
     let b = s.bench;

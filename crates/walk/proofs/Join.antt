@@ -10,7 +10,7 @@ use Rattle.append.proofs.Laws.{puts-none}
 use Rattle.bench.specs.Calls.{CycleOut, cycleCall}
 use Rattle.benchfile.specs.Row.{rowOf, rowBytes}
 use Rattle.benchfile.specs.declared.row.Row.{Row}
-use Rattle.benchfile.specs.declared.row.Row.the-variants.{Cycles, Read, Write, Back, Broken}
+use Rattle.benchfile.specs.declared.row.Row.the-variants.{Cycles, Read, Write, Back}
 use Rattle.listing.specs.Cycle.{cycleText}
 use Rattle.listing.specs.Event.{backText, refusedText, endText}
 use Rattle.listing.specs.Line.{accessText}
@@ -91,14 +91,6 @@ module _ (rom : List ℕ) (only row : ℕ) (w : Walking) where
   pub by-back : {x : Walking} {says : Row} {count : ℕ} → says ≡ Back count → x ≡ backWalked row count w → x ≡ byRow rom only row says w
   unfolding byRow
   by-back p q = cc
-
-  pub by-row : {x : Walking} {says : Row} (y : Row) → says ≡ y → rowWalked rom only row y w ≡ byRow rom only row y w → x ≡ rowWalked rom only row y w
-      → x ≡ byRow rom only row says w
-  by-row y p n q = cc
-
-  pub by-broken : {x : Walking} {says : Row} → says ≡ Broken → x ≡ rowWalked rom only row says w → x ≡ byRow rom only row says w
-  unfolding byRow
-  by-broken p q = cc
 
 module _ (rom script : List ℕ) (only : ℕ) (w : Walking) where
   pub step-none : leb (length script / 8) (w .stand .next) ≡ true → w ≡ stepped rom script only w

@@ -97,9 +97,6 @@ module _ (rom : List ℕ) (only row count event : ℕ) (due timer : Bool) where
         let c = counts-alike (w .stand .held) (s .b) i (callOf s i .held) (x .held) (x .most) h in
         (ap (λ (o : CycleOut). up (w .stand .held) (o .held)) call-same ∙ c .0 ∙ sym b, omega (arith, b, c .1))
 
-    pub held-same : i < 65535 → counted (w .stand) (made .held) .held ≡ stepOf s i .b
-    held-same h = alike h .0
-
     -- where it is not the last and was accepted, the next finds them alike again
     more : suc i < count → count < 65536 → stepOf s i .number ≡ 0 → After (cycleWalked rom only row count event due timer w) (stepOf s i) (suc i)
     unfolding cycleWalked counted

@@ -1,27 +1,16 @@
 // A script run step by step: a step is one call, but for a row of back steps, which is one.
-ghost use Prim.Native.Nat.{_+_};
 ghost use mathlib.Core.Path.{_≡_};
 ghost use denote.Ref.{now};
-ghost use lib.Dec.{leb};
 ghost use Rattle.walk.specs.Walk.{walking, byRow};
 ghost use Rattle.walk.specs.Steps.{stepped, steps};
 use crate::row::walk_back;
 use crate::row::walk_cycle;
 use crate::row::walk_row;
 use crate::stand::Walk;
+use append::has_room;
 use benchfile::part::part;
 use benchfile::row::Row;
 use benchfile::row::row_of;
-
-// The lines of a step have room in 2,048 bytes.
-fn has_room(used: usize, room: usize) -> bool
-    ensures { λ r. ⌜ r ≡ leb (used + 2048) room ⌝ }
-{
-    if room < 2048 {
-        return false;
-    }
-    if used <= room - 2048 { true } else { false }
-}
 
 fn by_row(
     w: Walk,
@@ -63,7 +52,7 @@ fn by_row(
     }
 }
 
-// One step more, unless there is none, a call was refused, or its lines might have no room.
+// One step more, unless there is none, a call was refused, or its lines, of 2,048 bytes at most, might have no room.
 fn step(
     w: Walk,
     low: &mut [u8],
@@ -86,7 +75,7 @@ fn step(
     if w.number != 0 {
         return w;
     }
-    if !has_room(w.used, out.len()) {
+    if !has_room(w.used, 2048, out.len()) {
         return w;
     }
     by_row(w, low, high, entries, origins, rom, out, only, row, says)

@@ -19,11 +19,11 @@ part-requires c κs = tt
 returns-2 : tie.Need-returns-2
 returns-2 c = step-refused _ _ _ (lt-leb _ _ (c .before .before .before .if1 .left)) (ne-eqb _ _ (c .if2 .taken))
 
-takes-line-requires : tie.Need-takes-line-requires
-takes-line-requires c κs = tt
+has-room-requires : tie.Need-has-room-requires
+has-room-requires c κs = tt
 
 returns-3 : tie.Need-returns-3
-returns-3 c = step-full _ _ _ (lt-leb _ _ (c .before .before .before .before .before .if1 .left)) (eq-eqb _ _ (c .before .before .if2 .left)) (c .before .takes-line .ensures) (not-true _ (c .if3 .taken))
+returns-3 c = step-full _ _ _ (lt-leb _ _ (c .before .before .before .before .before .if1 .left)) (eq-eqb _ _ (c .before .before .if2 .left)) (c .before .has-room .ensures) (not-true _ (c .if3 .taken))
 
 run-line-requires : tie.Need-run-line-requires
 run-line-requires c κs = tt
@@ -41,7 +41,7 @@ same-length-4 : tie.Need-same-length-4
 same-length-4 c = (c .before .before .before .before .before .before .before .before .before .before .run-line .kept .1 .1 .1 .1 .1 .1 .1 .0)
 
 returns-4 : tie.Need-returns-4
-returns-4 c = step-goes _ _ _ (lt-leb _ _ (c .before .before .before .before .before .before .before .before .before .before .before .before .before .before .before .before .before .before .before .before .before .if1 .left)) (eq-eqb _ _ (c .before .before .before .before .before .before .before .before .before .before .before .before .before .before .before .before .before .before .if2 .left)) (c .before .before .before .before .before .before .before .before .before .before .before .before .before .before .before .before .before .takes-line .ensures) (not-false _ (c .before .before .before .before .before .before .before .before .before .before .before .before .before .before .before .before .if3 .left)) (c .before .before .before .before .before .before .before .before .before .before .before .before .before .before .before .before .before .before .before .before .part .ensures) (c .before .before .before .before .before .before .before .before .before .before .run-line .ensures)
+returns-4 c = step-goes _ _ _ (lt-leb _ _ (c .before .before .before .before .before .before .before .before .before .before .before .before .before .before .before .before .before .before .before .before .before .if1 .left)) (eq-eqb _ _ (c .before .before .before .before .before .before .before .before .before .before .before .before .before .before .before .before .before .before .if2 .left)) (c .before .before .before .before .before .before .before .before .before .before .before .before .before .before .before .before .before .has-room .ensures) (not-false _ (c .before .before .before .before .before .before .before .before .before .before .before .before .before .before .before .before .if3 .left)) (c .before .before .before .before .before .before .before .before .before .before .before .before .before .before .before .before .before .before .before .before .part .ensures) (c .before .before .before .before .before .before .before .before .before .before .run-line .ensures)
 
 pub step-spec : {M : Type 1} → statement M
 step-spec =
@@ -52,7 +52,7 @@ step-spec =
     mul-part
     part-requires
     returns-2
-    takes-line-requires
+    has-room-requires
     returns-3
     run-line-requires
     same-length

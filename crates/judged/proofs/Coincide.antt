@@ -2,7 +2,7 @@
 use Prim.Native.Nat.{ℕ}
 use mathlib.Core.Bool.{Bool}
 use mathlib.Core.List.{List}
-use mathlib.Core.Path.{_≡_, sym, _∙_}
+use mathlib.Core.Path.{_≡_, _∙⁻¹_}
 use lib.ListN.{length}
 use Rattle.bench.specs.Calls.{desk, cycleOut, cycleCall, readOut, readCall, writeOut, writeCall, plainOut, padCall, plugCall, answerCall, backCall, freshCall}
 use Rattle.bench.specs.Page.{pageCall}
@@ -15,14 +15,10 @@ use Rattle.bench.specs.declared.operate.WriteAnswer.{WriteAnswer}
 use Rattle.benchfile.specs.File.{fileCheck, sectionNumber, sectionOf}
 use Rattle.judged.specs.Outcome.{Outcome, outcome, Coincide, ofCycle, ofRead, ofWrite, ofPlain}
 
--- what equals the same is equal
-pub same : {A : Type 0} {x y c : A} → x ≡ c → y ≡ c → x ≡ y
-same p q = p ∙ sym q
-
 -- the one law: both sides taken apart
 pub coincide : {A B : Type 0} (of : B → Outcome A) {x y c : B} → x ≡ c → y ≡ c → Coincide (of x) (of y)
 coincide {A} of p q =
-    let e = same p q in
+    let e = p ∙⁻¹ q in
     record {
       answer = λ i. of (e i) .answer;
       low = λ i. of (e i) .low;
@@ -76,21 +72,21 @@ back-coincides b low high entries p q = coincide ofPlain p q
 
 -- what is lent nothing to write to leaves its answer alone: a struct, a number, or the bytes of a part
 pub fresh-coincides : (length bitcycles : ℕ) {r r′ : Answer} → r ≡ freshCall length bitcycles → r′ ≡ freshCall length bitcycles → r ≡ r′
-fresh-coincides length bitcycles p q = same p q
+fresh-coincides length bitcycles p q = p ∙⁻¹ q
 
 module _ (low high : List ℕ) (page : ℕ) where
   pub page-look-coincides : {r r′ : List ℕ} → r ≡ pageCall low high page → r′ ≡ pageCall low high page → r ≡ r′
-  page-look-coincides p q = same p q
+  page-look-coincides p q = p ∙⁻¹ q
 
   pub page-number-coincides : {r r′ : ℕ} → r ≡ lookNumber (length low) (length high) page → r′ ≡ lookNumber (length low) (length high) page → r ≡ r′
-  page-number-coincides p q = same p q
+  page-number-coincides p q = p ∙⁻¹ q
 
 module _ (file : List ℕ) where
   pub file-check-coincides : {r r′ : ℕ} → r ≡ fileCheck file → r′ ≡ fileCheck file → r ≡ r′
-  file-check-coincides p q = same p q
+  file-check-coincides p q = p ∙⁻¹ q
 
   pub section-number-coincides : (section : ℕ) {r r′ : ℕ} → r ≡ sectionNumber file section → r′ ≡ sectionNumber file section → r ≡ r′
-  section-number-coincides section p q = same p q
+  section-number-coincides section p q = p ∙⁻¹ q
 
   pub section-look-coincides : (section : ℕ) {r r′ : List ℕ} → r ≡ sectionOf file section → r′ ≡ sectionOf file section → r ≡ r′
-  section-look-coincides section p q = same p q
+  section-look-coincides section p q = p ∙⁻¹ q

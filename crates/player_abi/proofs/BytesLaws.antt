@@ -1,10 +1,10 @@
 -- The machine's bytes that pass the tests of the way: what they stand for, and what an exported cycle on them is.
-use Prim.Native.Nat.{ℕ, zero, suc, _/_, _-_, _<_}
-use mathlib.Core.Bool.{Bool, true, false, not, _&&_, _||_}
+use Prim.Native.Nat.{ℕ, suc, _/_, _-_, _<_}
+use mathlib.Core.Bool.{Bool, true, false, not, _&&_, _||_, and-eq-true-iff}
 use mathlib.Core.List.{List, [], _∷_}
 use mathlib.Core.Path.{_≡_, refl, sym, ap, _∙_}
 use native.Mathlib.Omega.{arith}
-use borrow.Author.Tests.{eqb-true, eq-eqb, not-true}
+use borrow.Author.Tests.{eqb-true, not-true}
 use lib.Bits.{bitAnd}
 use lib.Dec.{eqb, leb, ltb}
 use lib.ListN.{length, getD}
@@ -36,14 +36,6 @@ use Rattle.player_abi.specs.Way.{clockAt, pressedTests, calmTests, turnO
 
 -- ---- tests
 
-pub left-of : (a b : Bool) → (a && b) ≡ true → a ≡ true
-left-of true b h = refl
-left-of false b h = h
-
-pub right-of : (a b : Bool) → (a && b) ≡ true → b ≡ true
-right-of true b h = h
-right-of false b h = cc
-
 -- a choice that is not 0 was made, and of what
 picked : (a : Bool) (x n : ℕ) → 0 < n → pick a x 0 ≡ n → a ≡ true
 picked true x n h q = refl
@@ -52,6 +44,10 @@ picked false x n h q = absurd (omega (arith, h, q))
 given : (a : Bool) (x n : ℕ) → 0 < n → pick a x 0 ≡ n → x ≡ n
 given true x n h q = q
 given false x n h q = absurd (omega (arith, h, q))
+
+-- of the turns, waiting is 1 and a byte moved 2
+abbrev pub turnBy : Bool → Bool → ℕ
+turnBy w t = pick w 1 (pick t 2 0)
 
 -- every byte that an index reaches is one
 pub all-bytes : (l : List ℕ) → ((k : ℕ) → k < length l → getD l k 0 < 256) → Bytes l
@@ -163,13 +159,13 @@ goes s low high room rom event line timer n pos q =
     let p = all (plainTests event line timer) in
     let r = all (lentTests low high room rom (lengthAt s) (slotAt s) (keptAt s)) in
     let inner = pick (p && r) (kindOf e) 0 in
-    let both = picked (p && r) (kindOf e) n pos (given (eqb (length s) 280) inner n pos q) in
+    let tests = and-eq-true-iff p r .0 (picked (p && r) (kindOf e) n pos (given (eqb (length s) 280) inner n pos q)) in
     let kind = given (p && r) (kindOf e) n pos (given (eqb (length s) 280) inner n pos q) in
     let sound = given (all (calmTests e)) (pick (entryOk e) (turnOf e) 0) n pos kind in
     record {
       long = eqb-true (length s) 280 (picked (eqb (length s) 280) inner n pos q);
-      plain = every (plainTests event line timer) (left-of p r both);
-      lent = every (lentTests low high room rom (lengthAt s) (slotAt s) (keptAt s)) (right-of p r both);
+      plain = every (plainTests event line timer) (tests .0);
+      lent = every (lentTests low high room rom (lengthAt s) (slotAt s) (keptAt s)) (tests .1);
       calm = every (calmTests e) (picked (all (calmTests e)) (pick (entryOk e) (turnOf e) 0) n pos kind);
       ok = picked (entryOk e) (turnOf e) n pos sound;
       turn = given (entryOk e) (turnOf e) n pos sound;

@@ -1,10 +1,10 @@
 -- A byte moved on the machine's bytes where they stand is the cycle's own definition.
-use Prim.Native.Nat.{ℕ, zero, suc, _+_, _-_, _*_, _/_, _%_, _^_, _≤_, _<_, min}
-use mathlib.Core.Bool.{Bool, true, false, not, _&&_, _||_}
+use Prim.Native.Nat.{ℕ, zero, suc, _+_, _-_, _*_, _%_, _^_, _≤_, _<_}
+use mathlib.Core.Bool.{Bool, true, false, not, _&&_, and-eq-true-iff}
 use mathlib.Core.List.{List, [], _∷_}
 use mathlib.Core.Path.{_≡_, refl, sym, ap, _∙_, subst}
 use native.Mathlib.Omega.{arith}
-use borrow.Author.Tests.{eqb-true, not-true, leb-true, ltb-true, lt-leb}
+use borrow.Author.Tests.{eqb-true, not-true, leb-true, ltb-true}
 use lib.Dec.{T, eqb, leb, ltb}
 use lib.ListN.{length, getD, set, length-set}
 use Rattle.common.specs.Pick.{pick}
@@ -12,12 +12,11 @@ use Rattle.common.specs.Range.{within}
 use Rattle.common.specs.Width.{Bytes}
 use Rattle.common.proofs.TableLaws.{pick-elim}
 use Rattle.bench.specs.Calls.{desk, cycleCall, cycleDone}
-use Rattle.bench.specs.Ring.{after, bench, noted}
+use Rattle.bench.specs.Ring.{noted}
 use Rattle.bus.specs.Access.{opened, registerRead}
-use Rattle.bus.specs.Route.{routeOf, placeOf}
-use Rattle.bus.specs.View.{channelOf, withChannel, withCore}
+use Rattle.bus.specs.Route.{routeOf}
+use Rattle.bus.specs.View.{channelOf, withChannel}
 use Rattle.bus.specs.World.{World, world}
-use Rattle.bus.specs.declared.access.Core.{Core}
 use Rattle.bus.specs.declared.route.Route.{Route}
 use Rattle.bus.specs.declared.route.Route.the-variants.{Bank7E, Bank7F, Data, Registers, Cartridge}
 use Rattle.decode.specs.Cases.{stateOf, progressOf}
@@ -29,7 +28,7 @@ use Rattle.entry.specs.Slot.{readSlot, writeSlot}
 use Rattle.fields.specs.Bytes.{byteAt}
 use Rattle.fields.specs.Little.{le, span, field}
 use Rattle.fields.specs.Patch.{patched}
-use Rattle.hdma.specs.Engine.{at, withWait, withProgress}
+use Rattle.hdma.specs.Engine.{withWait, withProgress}
 use Rattle.hdma.specs.declared.engine.DmaCore.{DmaCore}
 use Rattle.image.specs.Encode.{entrySize, image, encOlds, encode}
 use Rattle.image.specs.Groups.{byte, flag}
@@ -62,8 +61,8 @@ use Rattle.player_abi.specs.Carry.{wmaddBytes, a1tNext, movedLog, portBy
 use Rattle.player_abi.specs.Crossed.{crossed, answered, cycleCrossed}
 use Rattle.player_abi.specs.Rest.{counting, edgeAt}
 use Rattle.player_abi.specs.Way.{waitAt, clockAt, lineAt, calmTests, waitingAt, baseAt, dmapAt, a1tAt, a1bAt, dasAt, portAt, tripAt, memory, dueTests, tripTests, turnOf, slotAt, keptAt as countAt, lengthAt, wayOf}
-use Rattle.player_abi.proofs.BytesLaws.{left-of, right-of, b, bytes-are, idle, one, two, runs, call-is, goes}
-use Rattle.player_abi.proofs.MoveLaws.{silent, port-route, port-silent, nextWm, movedIo, movedWorld, readOf, leaves, plain-move, channel-moves, moves}
+use Rattle.player_abi.proofs.BytesLaws.{turnBy, b, bytes-are, idle, one, two, runs, call-is, goes}
+use Rattle.player_abi.proofs.MoveLaws.{silent, port-route, port-silent, nextWm, movedIo, readOf, leaves, plain-move, channel-moves, moves}
 use Rattle.player_abi.proofs.QuietLaws.{unit-cycle}
 
 -- ---- the byte
@@ -353,10 +352,6 @@ module _ (s : List ℕ) (fit : Bytes s) (ok : entryOk (readSlot entrySize 0 s) �
           let ram = poked (banks l h) place v in
           crossed 0 (laidOver (image-is v i)) (ram .low) (ram .high) (writeSlot entrySize (slotAt s) (encode m olds) en) (answered true (edgeAt e) (movedLog trip v) out))
 
--- of the turns, a byte moved is 2
-abbrev turnBy : Bool → Bool → ℕ
-turnBy w t = pick w 1 (pick t 2 0)
-
 moves-two : (w t : Bool) → turnBy w t ≡ 2 → t ≡ true
 moves-two true t q = absurd (omega (arith, q))
 moves-two false true q = refl
@@ -372,9 +367,9 @@ unfolding turnOf
 carry-by rom s l h en out event line timer fit way =
     let g = goes s (length l) (length h) (length en) (length rom) event line timer 2 (omega arith) way in
     let x = readSlot entrySize 0 s in
-    let both = moves-two (waitingAt x) (all (dueTests x) && all (tripTests x)) (g .turn) in
-    let due = every (dueTests x) (left-of (all (dueTests x)) (all (tripTests x)) both) in
-    let plain = every (tripTests x) (right-of (all (dueTests x)) (all (tripTests x)) both) in
+    let tests = and-eq-true-iff (all (dueTests x)) (all (tripTests x)) .0 (moves-two (waitingAt x) (all (dueTests x) && all (tripTests x)) (g .turn)) in
+    let due = every (dueTests x) (tests .0) in
+    let plain = every (tripTests x) (tests .1) in
     crossed-is s fit (g .ok) (g .calm) due plain rom l h en out
     ∙ ap (λ (t : Turned). cycleCrossed s out (cycleDone (desk (b s fit (g .ok) (g .calm)) l h en) t)) (sym (ends s fit (g .ok) (g .calm) due plain rom l h))
     ∙ ap (cycleCrossed s out) (sym (call-is s fit (g .ok) (g .calm) rom l h en (g .lent) event line timer (g .plain)))

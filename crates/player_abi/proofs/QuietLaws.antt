@@ -1,8 +1,8 @@
 -- What a cycle does where nothing happens to the registers and the DMA unit only waits or is idle.
 use Prim.Native.Nat.{ℕ, _-_, _<_, _≤_}
-use mathlib.Core.Bool.{Bool, true, false, _&&_, _||_}
+use mathlib.Core.Bool.{Bool, true, false, _||_, or-false, and-false}
 use mathlib.Core.List.{List}
-use mathlib.Core.Path.{_≡_, refl, sym, ap, _∙_}
+use mathlib.Core.Path.{_≡_, refl, ap, _∙_}
 use native.Mathlib.Omega.{arith}
 use borrow.Author.Tests.{ltb-true, ltb-false, lt-ltb, ne-eqb}
 use lib.Bits.{bitAnd}
@@ -25,15 +25,6 @@ use Rattle.signals.specs.Flags.{nmiLine}
 use Rattle.state.specs.declared.Dma.{Dma}
 use Rattle.state.specs.declared.DmaState.the-variants as state
 use Rattle.state.specs.declared.Machine.{Machine}
-
--- a test, or one that does not count
-or-false : (b : Bool) → (b || false) ≡ b
-or-false true = refl
-or-false false = refl
-
-and-false : (b : Bool) → (b && false) ≡ false
-and-false true = refl
-and-false false = refl
 
 -- no line due and no frame's start: the unit is as it was
 armed-same : (d : Dma) (mask : ℕ) → armed d mask false false ≡ d

@@ -1,11 +1,11 @@
 -- A cycle that waits, made on the machine's bytes where they stand, is the cycle's own definition.
 use Prim.Native.Nat.{ℕ, _+_, _-_, _/_, _%_, _^_, _≤_, min}
-use mathlib.Core.Bool.{Bool, true, false, _&&_, _||_}
+use mathlib.Core.Bool.{Bool, true, false, _&&_, _||_, and-eq-true-iff}
 use mathlib.Core.List.{List, _++_, append-assoc}
 use mathlib.Core.Path.{_≡_, refl, sym, ap, _∙_}
 use native.Mathlib.Omega.{arith}
 use borrow.Author.Tests.{eqb-true, le-leb}
-use lib.Dec.{eqb, leb, ltb}
+use lib.Dec.{eqb, ltb}
 use lib.ListN.{length, take, drop, length-append, take-append-drop}
 use lib.Seq.{take-append-le, drop-append-le}
 use Rattle.common.specs.Pick.{pick}
@@ -26,7 +26,6 @@ use Rattle.image.proofs.Size.{entry-size}
 use Rattle.machine.specs.Cycle.{Turned, cycled}
 use Rattle.machine.specs.declared.event.Event.the-variants.{Nothing}
 use Rattle.ranges.specs.Entry.{entryOk}
-use Rattle.signals.specs.Flags.{nmiLine}
 use Rattle.state.specs.declared.DmaState.the-variants as state
 use Rattle.state.specs.declared.Machine.{Machine}
 use Rattle.wram.specs.Olds.{noOlds}
@@ -35,7 +34,7 @@ use Rattle.player_abi.specs.Bytes.{benchOf, stored, saved}
 use Rattle.player_abi.specs.Crossed.{crossed, answered, cycleCrossed}
 use Rattle.player_abi.specs.Rest.{ticking, counting, edgeAt, resting, rested}
 use Rattle.player_abi.specs.Way.{waitAt, clockAt, lineAt, calmTests, waitingAt, dueTests, tripTests, turnOf, slotAt, keptAt, lengthAt, wayOf}
-use Rattle.player_abi.proofs.BytesLaws.{left-of, right-of, e, m, b, bytes-are, idle, one, two, runs, call-is, goes}
+use Rattle.player_abi.proofs.BytesLaws.{turnBy, e, m, b, bytes-are, idle, one, two, runs, call-is, goes}
 use Rattle.player_abi.proofs.QuietLaws.{left, quiet-cycle}
 use Rattle.ranges.specs.Tests.{all}
 use Rattle.ranges.proofs.Tests.{Every}
@@ -96,11 +95,7 @@ module _ (s : List ℕ) (long : length s ≡ 280) where
   unfolding writeSlot
   write-head x = rw long refl
 
--- of the turns, waiting is 1
-abbrev turn : Bool → Bool → ℕ
-turn w t = pick w 1 (pick t 2 0)
-
-waits-one : (w t : Bool) → turn w t ≡ 1 → w ≡ true
+waits-one : (w t : Bool) → turnBy w t ≡ 1 → w ≡ true
 waits-one true t q = refl
 waits-one false true q = absurd (omega (arith, q))
 waits-one false false q = absurd (omega (arith, q))
@@ -124,9 +119,9 @@ module _ (s : List ℕ) (long : length s ≡ 280) (fit : Bytes s) (ok : entryOk 
       let x = e s fit ok calm in
       let none = eqb (byteAt x 71) 0 in
       let still = eqb (byteAt x 59) 0 in
-      let both : (none && still) ≡ true = (λ i. sym h i || (none && still)) ∙ waits in (
-        ap (λ (n : ℕ). eqb n 1) (eqb-true (byteAt x 71) 0 (left-of none still both)),
-        λ i. pick (right-of none still both i) state.Idle (pick (eqb (byteAt x 59) 1) state.Startup (pick (eqb (byteAt x 59) 2) state.Dma state.Hdma)),
+      let tests = and-eq-true-iff none still .0 ((λ i. sym h i || (none && still)) ∙ waits) in (
+        ap (λ (n : ℕ). eqb n 1) (eqb-true (byteAt x 71) 0 (tests .0)),
+        λ i. pick (tests .1 i) state.Idle (pick (eqb (byteAt x 59) 1) state.Startup (pick (eqb (byteAt x 59) 2) state.Dma state.Hdma)),
       )
 
   module _ (rom l h en out : List ℕ) where

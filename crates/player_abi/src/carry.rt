@@ -74,14 +74,7 @@ fn place_for(e: [u8; ENTRY_SIZE], bank: u8, addr: u16) -> Place
     place_of(wmadd, way, addr)
 }
 
-fn fetch(
-    e: [u8; ENTRY_SIZE],
-    low: &[u8],
-    high: &[u8],
-    rom: &[u8],
-    bank: u8,
-    addr: u16,
-) -> u8
+fn fetch(e: [u8; ENTRY_SIZE], low: &[u8], high: &[u8], rom: &[u8], bank: u8, addr: u16) -> u8
     ensures { λ r. ⌜ r ≡ byteFrom e (now (rom .entry)) (now (low .entry)) (now (high .entry)) bank addr ⌝ }
 {
     let place = place_for(e, bank, addr);

@@ -5,15 +5,6 @@ use Rattle.player_abi.proofs.BytesLaws.{all-bytes}
 use borrow.Author.Needs.{needs}
 use Rattle.player_abi.proofs.calls.cloverwain_cycle.Statement.{statement}
 use Rattle.player_abi.proofs.calls.cloverwain_cycle.Tie as tie
-use Rattle.player_abi.proofs.calls.cloverwain_cycle.Reads as reads
-use Rattle.player_abi.proofs.calls.cloverwain_cycle.Lts as lts
-use Rattle.bench.proofs.operate.cycle.Reads as cycle-reads
-use Rattle.player_abi.proofs.accesses.put_answer.Reads as put-answer-reads
-use Rattle.player_abi.proofs.bytes.bench_of.Reads as bench-of-reads
-use Rattle.player_abi.proofs.bytes.save.Reads as save-reads
-use Rattle.player_abi.proofs.carry.carry.Reads as carry-reads
-use Rattle.player_abi.proofs.rest.rest.Reads as rest-reads
-use Rattle.player_abi.proofs.way.way_of.Reads as way-of-reads
 
 -- src/calls.rt:49:9
 way-of-requires : tie.Need-way-of-requires

@@ -3,24 +3,6 @@ use Rattle.player_abi.proofs.CarryJoin.{in-image, after-by}
 use borrow.Author.Needs.{needs}
 use Rattle.player_abi.proofs.carry.after_move.Statement.{statement}
 use Rattle.player_abi.proofs.carry.after_move.Tie as tie
-use Rattle.player_abi.proofs.carry.after_move.Reads as reads
-use Rattle.player_abi.proofs.carry.after_move.Lts as lts
-use Rattle.decode.proofs.register_file.word_at.Reads as word-at-reads
-use Rattle.fields.proofs.join4.Reads as join4-reads
-use Rattle.fields.proofs.put.Reads as put-reads
-use Rattle.player_abi.proofs.bytes.put_eight.Reads as put-eight-reads
-use Rattle.player_abi.proofs.carry.next_a1t.Reads as next-a1t-reads
-use Rattle.player_abi.proofs.carry.next_wmadd.Reads as next-wmadd-reads
-use Rattle.player_abi.proofs.carry.next_written.Reads as next-written-reads
-use Rattle.player_abi.proofs.carry.two_bytes.Reads as two-bytes-reads
-use Rattle.player_abi.proofs.carry.wmadd_bytes.Reads as wmadd-bytes-reads
-use Rattle.player_abi.proofs.rest.four_bytes.Reads as four-bytes-reads
-use Rattle.player_abi.proofs.way.base_at.Reads as base-at-reads
-use Rattle.player_abi.proofs.way.clock_at.Reads as clock-at-reads
-use Rattle.player_abi.proofs.way.line_at.Reads as line-at-reads
-use Rattle.std.proofs.num.wrapping_add_u32.Reads as wrapping-add-u32-reads
-use Rattle.std.proofs.num.wrapping_add_u64.Reads as wrapping-add-u64-reads
-use Rattle.transfer.proofs.bits.dec16.Reads as dec16-reads
 
 -- src/carry.rt:165:9
 base-at-requires : tie.Need-base-at-requires

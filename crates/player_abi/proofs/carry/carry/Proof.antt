@@ -2,24 +2,6 @@ use Rattle.player_abi.proofs.CarryJoin.{carried-by}
 use borrow.Author.Needs.{needs}
 use Rattle.player_abi.proofs.carry.carry.Statement.{statement}
 use Rattle.player_abi.proofs.carry.carry.Tie as tie
-use Rattle.player_abi.proofs.carry.carry.Reads as reads
-use Rattle.player_abi.proofs.carry.carry.Lts as lts
-use Rattle.entry.proofs.slot_bytes.Reads as slot-bytes-reads
-use Rattle.player_abi.proofs.bytes.kept_at.Reads as kept-at-reads
-use Rattle.player_abi.proofs.bytes.length_at.Reads as length-at-reads
-use Rattle.player_abi.proofs.bytes.slot_at.Reads as slot-at-reads
-use Rattle.player_abi.proofs.carry.after_move.Reads as after-move-reads
-use Rattle.player_abi.proofs.carry.fetch.Reads as fetch-reads
-use Rattle.player_abi.proofs.carry.note.Reads as note-reads
-use Rattle.player_abi.proofs.carry.place_for.Reads as place-for-reads
-use Rattle.player_abi.proofs.carry.put_moved.Reads as put-moved-reads
-use Rattle.player_abi.proofs.rest.count.Reads as count-reads
-use Rattle.player_abi.proofs.rest.put_slot.Reads as put-slot-reads
-use Rattle.player_abi.proofs.way.line_at.Reads as line-at-reads
-use Rattle.player_abi.proofs.way.trip_at.Reads as trip-at-reads
-use Rattle.wram.proofs.keep_old.Reads as keep-old-reads
-use Rattle.wram.proofs.no_olds.Reads as no-olds-reads
-use Rattle.wram.proofs.poke.Reads as poke-reads
 
 -- src/carry.rt:226:13
 slot-bytes-requires : tie.Need-slot-bytes-requires

@@ -3,13 +3,6 @@ use Rattle.player_abi.proofs.CarryJoin.{fetch-by}
 use borrow.Author.Needs.{needs}
 use Rattle.player_abi.proofs.carry.fetch.Statement.{statement}
 use Rattle.player_abi.proofs.carry.fetch.Tie as tie
-use Rattle.player_abi.proofs.carry.fetch.Reads as reads
-use Rattle.player_abi.proofs.carry.fetch.Lts as lts
-use Rattle.bus.proofs.route.route_of.Reads as route-of-reads
-use Rattle.cartridge.proofs.read.Reads as read-reads
-use Rattle.player_abi.proofs.carry.place_for.Reads as place-for-reads
-use Rattle.player_abi.proofs.carry.port_byte.Reads as port-byte-reads
-use Rattle.wram.proofs.peek.Reads as peek-reads
 
 -- src/carry.rt:86:9
 place-for-requires : tie.Need-place-for-requires

@@ -2,11 +2,6 @@ use mathlib.Core.Path.{refl, sym, _∙_}
 use borrow.Author.Needs.{needs}
 use Rattle.player_abi.proofs.carry.next_a1t.Statement.{statement}
 use Rattle.player_abi.proofs.carry.next_a1t.Tie as tie
-use Rattle.player_abi.proofs.carry.next_a1t.Reads as reads
-use Rattle.player_abi.proofs.carry.next_a1t.Lts as lts
-use Rattle.transfer.proofs.bits.dec16.Reads as dec16-reads
-use Rattle.transfer.proofs.bits.flag.Reads as flag-reads
-use Rattle.transfer.proofs.bits.inc16.Reads as inc16-reads
 
 -- src/carry.rt:131:8
 flag-requires : tie.Need-flag-requires

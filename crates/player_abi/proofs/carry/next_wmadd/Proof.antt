@@ -6,11 +6,6 @@ use Rattle.registers.specs.WmAdd.{stepped}
 use borrow.Author.Needs.{needs}
 use Rattle.player_abi.proofs.carry.next_wmadd.Statement.{statement}
 use Rattle.player_abi.proofs.carry.next_wmadd.Tie as tie
-use Rattle.player_abi.proofs.carry.next_wmadd.Reads as reads
-use Rattle.player_abi.proofs.carry.next_wmadd.Lts as lts
-use Rattle.decode.proofs.register_file.wmadd_at.Reads as wmadd-at-reads
-use Rattle.player_abi.proofs.way.port_at.Reads as port-at-reads
-use Rattle.registers.proofs.wm_address.inc.Reads as inc-reads
 
 -- src/carry.rt:112:9
 wmadd-at-requires : tie.Need-wmadd-at-requires

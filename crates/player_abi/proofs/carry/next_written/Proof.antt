@@ -10,11 +10,6 @@ use Rattle.fields.specs.Bytes.{byteAt}
 use borrow.Author.Needs.{needs}
 use Rattle.player_abi.proofs.carry.next_written.Statement.{statement}
 use Rattle.player_abi.proofs.carry.next_written.Tie as tie
-use Rattle.player_abi.proofs.carry.next_written.Reads as reads
-use Rattle.player_abi.proofs.carry.next_written.Lts as lts
-use Rattle.player_abi.proofs.way.base_at.Reads as base-at-reads
-use Rattle.player_abi.proofs.way.port_at.Reads as port-at-reads
-use Rattle.transfer.proofs.bits.flag.Reads as flag-reads
 
 -- src/carry.rt:150:18
 array-read-flag : tie.Need-array-read-flag

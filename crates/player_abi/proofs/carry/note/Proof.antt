@@ -5,11 +5,6 @@ use Rattle.image.specs.Encode.{entrySize}
 use borrow.Author.Needs.{needs}
 use Rattle.player_abi.proofs.carry.note.Statement.{statement}
 use Rattle.player_abi.proofs.carry.note.Tie as tie
-use Rattle.player_abi.proofs.carry.note.Reads as reads
-use Rattle.player_abi.proofs.carry.note.Lts as lts
-use Rattle.fields.proofs.put.Reads as put-reads
-use Rattle.image.proofs.olds.olds_bytes.Reads as olds-bytes-reads
-use Rattle.player_abi.proofs.rest.put_slot.Reads as put-slot-reads
 
 -- src/carry.rt:103:13
 olds-bytes-requires : tie.Need-olds-bytes-requires

@@ -4,11 +4,6 @@ use Rattle.bus.specs.Route.{placeOf}
 use borrow.Author.Needs.{needs}
 use Rattle.player_abi.proofs.carry.place_for.Statement.{statement}
 use Rattle.player_abi.proofs.carry.place_for.Tie as tie
-use Rattle.player_abi.proofs.carry.place_for.Reads as reads
-use Rattle.player_abi.proofs.carry.place_for.Lts as lts
-use Rattle.bus.proofs.route.place_of.Reads as place-of-reads
-use Rattle.bus.proofs.route.route_of.Reads as route-of-reads
-use Rattle.decode.proofs.register_file.wmadd_at.Reads as wmadd-at-reads
 
 -- src/carry.rt:71:9
 wmadd-at-requires : tie.Need-wmadd-at-requires

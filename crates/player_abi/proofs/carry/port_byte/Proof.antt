@@ -4,8 +4,6 @@ use Rattle.common.proofs.RangeLaws.{inside, below, above}
 use borrow.Author.Needs.{needs}
 use Rattle.player_abi.proofs.carry.port_byte.Statement.{statement}
 use Rattle.player_abi.proofs.carry.port_byte.Tie as tie
-use Rattle.player_abi.proofs.carry.port_byte.Reads as reads
-use Rattle.player_abi.proofs.carry.port_byte.Lts as lts
 
 -- src/carry.rt:55:16
 array-read-result : tie.Need-array-read-result

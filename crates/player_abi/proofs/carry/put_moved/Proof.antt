@@ -2,10 +2,6 @@ use Rattle.player_abi.proofs.CarryJoin.{moved-by}
 use borrow.Author.Needs.{needs}
 use Rattle.player_abi.proofs.carry.put_moved.Statement.{statement}
 use Rattle.player_abi.proofs.carry.put_moved.Tie as tie
-use Rattle.player_abi.proofs.carry.put_moved.Reads as reads
-use Rattle.player_abi.proofs.carry.put_moved.Lts as lts
-use Rattle.fields.proofs.put.Reads as put-reads
-use Rattle.player_abi.proofs.accesses.access_bytes.Reads as access-bytes-reads
 
 -- src/carry.rt:196:20
 cast-t9 : tie.Need-cast-t9

@@ -2,19 +2,6 @@ use Rattle.player_abi.proofs.RestJoin.{rested-by}
 use borrow.Author.Needs.{needs}
 use Rattle.player_abi.proofs.rest.rest.Statement.{statement}
 use Rattle.player_abi.proofs.rest.rest.Tie as tie
-use Rattle.player_abi.proofs.rest.rest.Reads as reads
-use Rattle.player_abi.proofs.rest.rest.Lts as lts
-use Rattle.entry.proofs.slot_bytes.Reads as slot-bytes-reads
-use Rattle.player_abi.proofs.bytes.kept_at.Reads as kept-at-reads
-use Rattle.player_abi.proofs.bytes.length_at.Reads as length-at-reads
-use Rattle.player_abi.proofs.bytes.slot_at.Reads as slot-at-reads
-use Rattle.player_abi.proofs.rest.count.Reads as count-reads
-use Rattle.player_abi.proofs.rest.put_quiet.Reads as put-quiet-reads
-use Rattle.player_abi.proofs.rest.put_slot.Reads as put-slot-reads
-use Rattle.player_abi.proofs.rest.tick.Reads as tick-reads
-use Rattle.player_abi.proofs.way.clock_at.Reads as clock-at-reads
-use Rattle.player_abi.proofs.way.line_at.Reads as line-at-reads
-use Rattle.player_abi.proofs.way.wait_at.Reads as wait-at-reads
 
 -- src/rest.rt:90:13
 slot-bytes-requires : tie.Need-slot-bytes-requires

@@ -6,10 +6,6 @@ use Rattle.ranges.specs.Tests.{all}
 use borrow.Author.Needs.{needs}
 use Rattle.player_abi.proofs.way.calm_at.Statement.{statement}
 use Rattle.player_abi.proofs.way.calm_at.Tie as tie
-use Rattle.player_abi.proofs.way.calm_at.Reads as reads
-use Rattle.player_abi.proofs.way.calm_at.Lts as lts
-use Rattle.player_abi.proofs.way.clock_at.Reads as clock-at-reads
-use Rattle.player_abi.proofs.way.pressed_at.Reads as pressed-at-reads
 
 -- src/way.rt:65:6
 array-read-result : tie.Need-array-read-result

@@ -10,12 +10,6 @@ use Rattle.ranges.specs.Tests.{all}
 use borrow.Author.Needs.{needs}
 use Rattle.player_abi.proofs.way.due_at.Statement.{statement}
 use Rattle.player_abi.proofs.way.due_at.Tie as tie
-use Rattle.player_abi.proofs.way.due_at.Reads as reads
-use Rattle.player_abi.proofs.way.due_at.Lts as lts
-use Rattle.decode.proofs.register_file.word_at.Reads as word-at-reads
-use Rattle.player_abi.proofs.way.base_at.Reads as base-at-reads
-use Rattle.player_abi.proofs.way.wait_at.Reads as wait-at-reads
-use Rattle.transfer.proofs.bits.dec16.Reads as dec16-reads
 
 -- src/way.rt:107:9
 base-at-requires : tie.Need-base-at-requires

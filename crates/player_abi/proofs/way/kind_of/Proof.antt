@@ -5,11 +5,6 @@ use Rattle.player_abi.specs.Way.{kindOf}
 use borrow.Author.Needs.{needs}
 use Rattle.player_abi.proofs.way.kind_of.Statement.{statement}
 use Rattle.player_abi.proofs.way.kind_of.Tie as tie
-use Rattle.player_abi.proofs.way.kind_of.Reads as reads
-use Rattle.player_abi.proofs.way.kind_of.Lts as lts
-use Rattle.player_abi.proofs.way.calm_at.Reads as calm-at-reads
-use Rattle.player_abi.proofs.way.turn_of.Reads as turn-of-reads
-use Rattle.ranges.proofs.entry.entry_ok.Reads as entry-ok-reads
 
 -- src/way.rt:150:8
 calm-at-requires : tie.Need-calm-at-requires

@@ -12,14 +12,6 @@ use Rattle.fields.specs.Bytes.{byteAt}
 use borrow.Author.Needs.{needs}
 use Rattle.player_abi.proofs.way.plain_trip.Statement.{statement}
 use Rattle.player_abi.proofs.way.plain_trip.Tie as tie
-use Rattle.player_abi.proofs.way.plain_trip.Reads as reads
-use Rattle.player_abi.proofs.way.plain_trip.Lts as lts
-use Rattle.bus.proofs.route.route_of.Reads as route-of-reads
-use Rattle.decode.proofs.register_file.word_at.Reads as word-at-reads
-use Rattle.player_abi.proofs.way.base_at.Reads as base-at-reads
-use Rattle.player_abi.proofs.way.leads_to_memory.Reads as leads-to-memory-reads
-use Rattle.player_abi.proofs.way.port_at.Reads as port-at-reads
-use Rattle.transfer.proofs.bits.flag.Reads as flag-reads
 
 -- src/way.rt:128:9
 base-at-requires : tie.Need-base-at-requires

@@ -5,12 +5,6 @@ use Rattle.fields.specs.Bytes.{byteAt}
 use borrow.Author.Needs.{needs}
 use Rattle.player_abi.proofs.way.port_at.Statement.{statement}
 use Rattle.player_abi.proofs.way.port_at.Tie as tie
-use Rattle.player_abi.proofs.way.port_at.Reads as reads
-use Rattle.player_abi.proofs.way.port_at.Lts as lts
-use Rattle.fields.proofs.join4.Reads as join4-reads
-use Rattle.player_abi.proofs.way.base_at.Reads as base-at-reads
-use Rattle.transfer.proofs.pattern.b_address.Reads as b-address-reads
-use Rattle.transfer.proofs.pattern.offset.Reads as offset-reads
 
 -- src/way.rt:89:9
 base-at-requires : tie.Need-base-at-requires

@@ -5,9 +5,6 @@ use lib.Dec.{eqb}
 use borrow.Author.Needs.{needs}
 use Rattle.player_abi.proofs.way.pressed_at.Statement.{statement}
 use Rattle.player_abi.proofs.way.pressed_at.Tie as tie
-use Rattle.player_abi.proofs.way.pressed_at.Reads as reads
-use Rattle.player_abi.proofs.way.pressed_at.Lts as lts
-use Rattle.fields.proofs.join2.Reads as join2-reads
 
 -- src/way.rt:58:12
 array-read-join2 : tie.Need-array-read-join2

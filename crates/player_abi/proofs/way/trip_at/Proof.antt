@@ -6,12 +6,6 @@ use Rattle.fields.specs.Bytes.{byteAt}
 use borrow.Author.Needs.{needs}
 use Rattle.player_abi.proofs.way.trip_at.Statement.{statement}
 use Rattle.player_abi.proofs.way.trip_at.Tie as tie
-use Rattle.player_abi.proofs.way.trip_at.Reads as reads
-use Rattle.player_abi.proofs.way.trip_at.Lts as lts
-use Rattle.decode.proofs.register_file.word_at.Reads as word-at-reads
-use Rattle.player_abi.proofs.way.base_at.Reads as base-at-reads
-use Rattle.player_abi.proofs.way.port_at.Reads as port-at-reads
-use Rattle.transfer.proofs.byte.trip_of.Reads as trip-of-reads
 
 -- src/way.rt:98:9
 base-at-requires : tie.Need-base-at-requires

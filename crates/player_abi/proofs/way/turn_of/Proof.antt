@@ -4,11 +4,6 @@ use Rattle.player_abi.specs.Way.{turnOf}
 use borrow.Author.Needs.{needs}
 use Rattle.player_abi.proofs.way.turn_of.Statement.{statement}
 use Rattle.player_abi.proofs.way.turn_of.Tie as tie
-use Rattle.player_abi.proofs.way.turn_of.Reads as reads
-use Rattle.player_abi.proofs.way.turn_of.Lts as lts
-use Rattle.player_abi.proofs.way.due_at.Reads as due-at-reads
-use Rattle.player_abi.proofs.way.plain_trip.Reads as plain-trip-reads
-use Rattle.player_abi.proofs.way.waiting_at.Reads as waiting-at-reads
 
 -- src/way.rt:137:8
 waiting-at-requires : tie.Need-waiting-at-requires

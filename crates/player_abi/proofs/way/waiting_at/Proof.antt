@@ -4,9 +4,6 @@ use Rattle.fields.specs.Bytes.{byteAt}
 use borrow.Author.Needs.{needs}
 use Rattle.player_abi.proofs.way.waiting_at.Statement.{statement}
 use Rattle.player_abi.proofs.way.waiting_at.Tie as tie
-use Rattle.player_abi.proofs.way.waiting_at.Reads as reads
-use Rattle.player_abi.proofs.way.waiting_at.Lts as lts
-use Rattle.player_abi.proofs.way.wait_at.Reads as wait-at-reads
 
 -- src/way.rt:75:10
 wait-at-requires : tie.Need-wait-at-requires

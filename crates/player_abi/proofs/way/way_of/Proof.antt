@@ -7,15 +7,6 @@ use Rattle.player_abi.specs.Way.{lentTests, kindOf, wayOf}
 use borrow.Author.Needs.{needs}
 use Rattle.player_abi.proofs.way.way_of.Statement.{statement}
 use Rattle.player_abi.proofs.way.way_of.Tie as tie
-use Rattle.player_abi.proofs.way.way_of.Reads as reads
-use Rattle.player_abi.proofs.way.way_of.Lts as lts
-use Rattle.entry.proofs.slot_bytes.Reads as slot-bytes-reads
-use Rattle.player_abi.proofs.bytes.kept_at.Reads as kept-at-reads
-use Rattle.player_abi.proofs.bytes.length_at.Reads as length-at-reads
-use Rattle.player_abi.proofs.bytes.slot_at.Reads as slot-at-reads
-use Rattle.player_abi.proofs.way.kind_of.Reads as kind-of-reads
-use Rattle.player_abi.proofs.way.lent_ok.Reads as lent-ok-reads
-use Rattle.player_abi.proofs.way.plain.Reads as plain-reads
 
 -- src/way.rt:199:9
 returns : tie.Need-returns

@@ -1,10 +1,10 @@
 -- The machine's bytes that pass the tests of the way: what they stand for, and what an exported cycle on them is.
-use Prim.Native.Nat.{ℕ, zero, suc, _/_, _-_, _<_}
+use Prim.Native.Nat.{ℕ, suc, _/_, _-_, _<_}
 use mathlib.Core.Bool.{Bool, true, false, not, _&&_, _||_}
 use mathlib.Core.List.{List, [], _∷_}
 use mathlib.Core.Path.{_≡_, refl, sym, ap, _∙_}
 use native.Mathlib.Omega.{arith}
-use borrow.Author.Tests.{eqb-true, eq-eqb, not-true}
+use borrow.Author.Tests.{eqb-true, not-true}
 use lib.Bits.{bitAnd}
 use lib.Dec.{eqb, leb, ltb}
 use lib.ListN.{length, getD}

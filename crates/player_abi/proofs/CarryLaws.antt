@@ -1,10 +1,10 @@
 -- A byte moved on the machine's bytes where they stand is the cycle's own definition.
-use Prim.Native.Nat.{ℕ, zero, suc, _+_, _-_, _*_, _/_, _%_, _^_, _≤_, _<_, min}
-use mathlib.Core.Bool.{Bool, true, false, not, _&&_, _||_}
+use Prim.Native.Nat.{ℕ, zero, suc, _+_, _-_, _*_, _%_, _^_, _≤_, _<_}
+use mathlib.Core.Bool.{Bool, true, false, not, _&&_}
 use mathlib.Core.List.{List, [], _∷_}
 use mathlib.Core.Path.{_≡_, refl, sym, ap, _∙_, subst}
 use native.Mathlib.Omega.{arith}
-use borrow.Author.Tests.{eqb-true, not-true, leb-true, ltb-true, lt-leb}
+use borrow.Author.Tests.{eqb-true, not-true, leb-true, ltb-true}
 use lib.Dec.{T, eqb, leb, ltb}
 use lib.ListN.{length, getD, set, length-set}
 use Rattle.common.specs.Pick.{pick}
@@ -12,12 +12,11 @@ use Rattle.common.specs.Range.{within}
 use Rattle.common.specs.Width.{Bytes}
 use Rattle.common.proofs.TableLaws.{pick-elim}
 use Rattle.bench.specs.Calls.{desk, cycleCall, cycleDone}
-use Rattle.bench.specs.Ring.{after, bench, noted}
+use Rattle.bench.specs.Ring.{noted}
 use Rattle.bus.specs.Access.{opened, registerRead}
-use Rattle.bus.specs.Route.{routeOf, placeOf}
-use Rattle.bus.specs.View.{channelOf, withChannel, withCore}
+use Rattle.bus.specs.Route.{routeOf}
+use Rattle.bus.specs.View.{channelOf, withChannel}
 use Rattle.bus.specs.World.{World, world}
-use Rattle.bus.specs.declared.access.Core.{Core}
 use Rattle.bus.specs.declared.route.Route.{Route}
 use Rattle.bus.specs.declared.route.Route.the-variants.{Bank7E, Bank7F, Data, Registers, Cartridge}
 use Rattle.decode.specs.Cases.{stateOf, progressOf}
@@ -29,7 +28,7 @@ use Rattle.entry.specs.Slot.{readSlot, writeSlot}
 use Rattle.fields.specs.Bytes.{byteAt}
 use Rattle.fields.specs.Little.{le, span, field}
 use Rattle.fields.specs.Patch.{patched}
-use Rattle.hdma.specs.Engine.{at, withWait, withProgress}
+use Rattle.hdma.specs.Engine.{withWait, withProgress}
 use Rattle.hdma.specs.declared.engine.DmaCore.{DmaCore}
 use Rattle.image.specs.Encode.{entrySize, image, encOlds, encode}
 use Rattle.image.specs.Groups.{byte, flag}
@@ -63,7 +62,7 @@ use Rattle.player_abi.specs.Crossed.{crossed, answered, cycleCrossed}
 use Rattle.player_abi.specs.Rest.{counting, edgeAt}
 use Rattle.player_abi.specs.Way.{waitAt, clockAt, lineAt, calmTests, waitingAt, baseAt, dmapAt, a1tAt, a1bAt, dasAt, portAt, tripAt, memory, dueTests, tripTests, turnOf, slotAt, keptAt as countAt, lengthAt, wayOf}
 use Rattle.player_abi.proofs.BytesLaws.{left-of, right-of, b, bytes-are, idle, one, two, runs, call-is, goes}
-use Rattle.player_abi.proofs.MoveLaws.{silent, port-route, port-silent, nextWm, movedIo, movedWorld, readOf, leaves, plain-move, channel-moves, moves}
+use Rattle.player_abi.proofs.MoveLaws.{silent, port-route, port-silent, nextWm, movedIo, readOf, leaves, plain-move, channel-moves, moves}
 use Rattle.player_abi.proofs.QuietLaws.{unit-cycle}
 
 -- ---- the byte

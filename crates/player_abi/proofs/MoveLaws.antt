@@ -1,7 +1,7 @@
 -- What a cycle does that moves one byte of a general transfer between memory and a port of the B bus.
-use Prim.Native.Nat.{ℕ, zero, suc, _+_, _-_, _/_, _%_, _^_, _≤_, _<_}
+use Prim.Native.Nat.{ℕ, _+_, _-_, _/_, _%_, _^_, _≤_, _<_}
 use mathlib.Core.Bool.{Bool, true, false, not, _&&_, _||_}
-use mathlib.Core.List.{List, [], _∷_}
+use mathlib.Core.List.{List}
 use mathlib.Core.Path.{_≡_, refl, sym, ap, _∙_, subst}
 use native.Mathlib.Omega.{arith}
 use borrow.Author.Tests.{not-true, eqb-true, ne-eqb, le-leb, lt-leb, lt-ltb, le-ltb}
@@ -11,18 +11,16 @@ use lib.Seq.{getD-set-same, set-getD, set-set}
 use Rattle.common.specs.Pick.{pick}
 use Rattle.common.specs.Range.{within}
 use Rattle.common.specs.Table.{find}
-use Rattle.bus.specs.Access.{noLog, pushAccess, opened, ioWritten, registerRead}
+use Rattle.bus.specs.Access.{opened, ioWritten, registerRead}
 use Rattle.bus.specs.Route.{routeOf, systemRoute, placeOf}
 use Rattle.bus.specs.View.{withIo, channelOf, withChannel, mdmaenOf, withMdmaen}
 use Rattle.bus.specs.World.{World, world, core, readAt, writeAt}
 use Rattle.bus.specs.declared.access.Core.{Core}
-use Rattle.bus.specs.declared.access.Log.{Log}
 use Rattle.bus.specs.declared.route.Route.{Route}
 use Rattle.bus.specs.declared.route.Route.the-variants.{Bank7E, Bank7F, Data, Registers, Cartridge}
 use Rattle.dma.specs.Cycle.{dueOf, actBy, acted, holding, cycleFrom}
 use Rattle.dma.specs.General.{afterByte, onBanks, stepFrom, dmaStep}
 use Rattle.hdma.specs.Engine.{at, withWait, withProgress}
-use Rattle.hdma.specs.declared.engine.DmaCore.{DmaCore}
 use Rattle.registers.specs.Channel.{noChannel}
 use Rattle.registers.specs.Groups.{withIo-wmadd, withIo-openbus, withIo-ports, withIo-channels, withPorts-written, withDmaChannel-a1t, withDmaChannel-das}
 use Rattle.registers.specs.Read.{channelRead, readTable, afterRead}
@@ -306,9 +304,9 @@ module _ (k : Core) (ch : ℕ) (eight : length (k .io .channels) ≡ 8) where
   pub channel-moves : (d : Dma) (u : ℕ) → eqb (down 65536 (c .das)) 0 ≡ false
       → afterByte (stepA1t k ch (c .dmap)) d ch u
       ≡ record {
-      core = withChannel k ch (withDmaChannel-das (withDmaChannel-a1t c (a1tNext (c .dmap) (c .a1t))) (down 65536 (c .das)));
-      dma = withWait (withProgress d (progress.At ch ((u + 1) % 2 ^ 32))) 7;
-    }
+        core = withChannel k ch (withDmaChannel-das (withDmaChannel-a1t c (a1tNext (c .dmap) (c .a1t))) (down 65536 (c .das)));
+        dma = withWait (withProgress d (progress.At ch ((u + 1) % 2 ^ 32))) 7;
+      }
   channel-moves d u q = ap (λ (j : Core). afterByte j d ch u) (a1t-steps (c .dmap)) ∙ das-steps d u (a1tNext (c .dmap) (c .a1t)) q
 
 -- ---- the cycle

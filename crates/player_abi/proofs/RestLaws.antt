@@ -5,7 +5,7 @@ use mathlib.Core.List.{List, _++_, append-assoc}
 use mathlib.Core.Path.{_≡_, refl, sym, ap, _∙_}
 use native.Mathlib.Omega.{arith}
 use borrow.Author.Tests.{eqb-true, le-leb}
-use lib.Dec.{eqb, leb, ltb}
+use lib.Dec.{eqb, ltb}
 use lib.ListN.{length, take, drop, length-append, take-append-drop}
 use lib.Seq.{take-append-le, drop-append-le}
 use Rattle.common.specs.Pick.{pick}
@@ -26,7 +26,6 @@ use Rattle.image.proofs.Size.{entry-size}
 use Rattle.machine.specs.Cycle.{Turned, cycled}
 use Rattle.machine.specs.declared.event.Event.the-variants.{Nothing}
 use Rattle.ranges.specs.Entry.{entryOk}
-use Rattle.signals.specs.Flags.{nmiLine}
 use Rattle.state.specs.declared.DmaState.the-variants as state
 use Rattle.state.specs.declared.Machine.{Machine}
 use Rattle.wram.specs.Olds.{noOlds}

@@ -74,14 +74,7 @@ fn place_for(e: [u8; ENTRY_SIZE], bank: u8, addr: u16) -> Place
     place_of(wmadd, way, addr)
 }
 
-fn fetch(
-    e: [u8; ENTRY_SIZE],
-    low: &[u8],
-    high: &[u8],
-    rom: &[u8],
-    bank: u8,
-    addr: u16,
-) -> u8
+fn fetch(e: [u8; ENTRY_SIZE], low: &[u8], high: &[u8], rom: &[u8], bank: u8, addr: u16) -> u8
     ensures { λ r. ⌜ r ≡ byteFrom e (now (rom .entry)) (now (low .entry)) (now (high .entry)) bank addr ⌝ }
 {
     let place = place_for(e, bank, addr);
@@ -214,6 +207,7 @@ fn put_moved(out: &mut [u8], edge: bool, trip: Trip, byte: u8)
     put(out, 3, &b);
 }
 
+// The record is written last, as in `rest`.
 pub fn carry(
     machine: &mut [u8],
     low: &mut [u8],
@@ -233,11 +227,11 @@ pub fn carry(
     let place = place_for(e, trip.target.bank, trip.target.addr);
     let none = no_olds();
     let olds = keep_old(none, low, high, place);
-    poke(low, high, place, byte);
-    note(entries, slot as usize, e, olds);
     let after = after_move(e, byte);
     put_slot(machine, 0, after);
     count(machine, slot as usize, kept as usize, length as usize);
     let nmi = line_at(e);
     put_moved(out, nmi & !(e[56] == 1), trip, byte);
+    poke(low, high, place, byte);
+    note(entries, slot as usize, e, olds);
 }

@@ -84,6 +84,7 @@ fn put_quiet(out: &mut [u8], held: bool, edge: bool)
     put(out, 3, &none);
 }
 
+// The record is written last: the machine's bytes are read again at the next call, and so are out of the way first.
 pub fn rest(machine: &mut [u8], entries: &mut [u8], out: &mut [u8])
     ensures { λ _. ⌜ resting (now (machine .exit)) (now (entries .exit)) (now (out .exit)) ≡ rested (now (machine .entry)) (now (entries .entry)) (now (out .entry)) ⌝ }
 {
@@ -94,8 +95,8 @@ pub fn rest(machine: &mut [u8], entries: &mut [u8], out: &mut [u8])
     let wait = wait_at(e);
     let clock = clock_at(e);
     let nmi = line_at(e);
-    put_slot(entries, slot as usize, e);
     tick(machine, nmi, wait, clock);
     count(machine, slot as usize, kept as usize, length as usize);
     put_quiet(out, 0 < wait, nmi & !(e[56] == 1));
+    put_slot(entries, slot as usize, e);
 }

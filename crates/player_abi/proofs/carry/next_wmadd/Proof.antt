@@ -6,30 +6,20 @@ use Rattle.registers.specs.WmAdd.{stepped}
 use borrow.Author.Needs.{needs}
 use Rattle.player_abi.proofs.carry.next_wmadd.Statement.{statement}
 use Rattle.player_abi.proofs.carry.next_wmadd.Tie as tie
-use Rattle.player_abi.proofs.carry.next_wmadd.Reads as reads
-use Rattle.player_abi.proofs.carry.next_wmadd.Lts as lts
-use Rattle.decode.proofs.register_file.wmadd_at.Reads as wmadd-at-reads
-use Rattle.player_abi.proofs.way.port_at.Reads as port-at-reads
-use Rattle.registers.proofs.wm_address.inc.Reads as inc-reads
 
--- src/carry.rt:112:9
 wmadd-at-requires : tie.Need-wmadd-at-requires
 wmadd-at-requires c κs = search needs
 
--- src/carry.rt:113:8
 port-at-requires : tie.Need-port-at-requires
 port-at-requires c κs = search needs
 
--- src/carry.rt:114:9
 inc-requires : tie.Need-inc-requires
 inc-requires c κs = search needs
 
--- src/carry.rt:114:9
 returns : tie.Need-returns
 unfolding wmaddNext
 returns c = rw (eq-eqb (portAt ((c .before .before .before .before .args .e))) 0x2180 (sym ((c .before .before .port-at .ensures)) ∙ (c .before .if1 .taken))) ((c .inc .ensures) ∙ ap stepped ((c .before .before .before .wmadd-at .ensures)))
 
--- src/carry.rt:109:1
 returns-2 : tie.Need-returns-2
 unfolding wmaddNext
 returns-2 c = rw (ne-eqb (portAt ((c .before .before .before .args .e))) 0x2180 (λ q. (c .if1 .left) ((c .before .port-at .ensures) ∙ q))) ((c .before .before .wmadd-at .ensures))

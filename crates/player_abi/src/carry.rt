@@ -3,7 +3,6 @@ ghost use mathlib.Core.Bool.{true};
 ghost use mathlib.Core.Path.{_≡_};
 ghost use denote.Ref.{now};
 ghost use Rattle.entry.specs.Slot.{writeSlot};
-ghost use Rattle.fields.specs.Little.{le};
 ghost use Rattle.fields.specs.Patch.{patched};
 ghost use Rattle.image.specs.Encode.{entrySize, encOlds};
 ghost use Rattle.image.specs.Groups.{bytes};
@@ -15,7 +14,6 @@ use crate::bytes::length_at;
 use crate::bytes::put_eight;
 use crate::bytes::slot_at;
 use crate::rest::count;
-use crate::rest::four_bytes;
 use crate::rest::put_slot;
 use crate::way::base_at;
 use crate::way::clock_at;
@@ -29,8 +27,10 @@ use bus::route::route_of;
 use decode::register_file::wmadd_at;
 use decode::register_file::word_at;
 use entry::slot_bytes;
+use fields::four_bytes;
 use fields::join4;
 use fields::put;
+use fields::two_bytes;
 use image::ENTRY_SIZE;
 use image::olds::olds_bytes;
 use image::register_file::bank_byte;
@@ -129,12 +129,6 @@ fn next_a1t(dmap: u8, a1t: u16) -> u16
         return dec16(a1t);
     }
     inc16(a1t)
-}
-
-fn two_bytes(n: u16) -> [u8; 2]
-    ensures { λ r. ⌜ r ≡ le 2 n ⌝ }
-{
-    [(n % 256) as u8, (n / 256 % 256) as u8]
 }
 
 // The bytes last written to the APU.

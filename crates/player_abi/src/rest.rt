@@ -4,7 +4,6 @@ ghost use Prim.Native.Nat.{_-_};
 ghost use denote.Ref.{now};
 ghost use Rattle.bus.specs.Access.{noLog};
 ghost use Rattle.entry.specs.Slot.{writeSlot};
-ghost use Rattle.fields.specs.Little.{le};
 ghost use Rattle.image.specs.Encode.{entrySize};
 ghost use Rattle.player_abi.specs.Crossed.{answered};
 ghost use Rattle.player_abi.specs.Rest.{ticking, counting, resting, rested};
@@ -18,6 +17,7 @@ use crate::way::wait_at;
 use bench::ring::more_kept;
 use bench::ring::slot_after;
 use entry::slot_bytes;
+use fields::four_bytes;
 use fields::put;
 use image::ENTRY_SIZE;
 
@@ -39,17 +39,6 @@ fn less(wait: u32) -> u32
         return 0;
     }
     wait - 1
-}
-
-pub fn four_bytes(n: u32) -> [u8; 4]
-    ensures { λ r. ⌜ r ≡ le 4 n ⌝ }
-{
-    [
-        (n % 256) as u8,
-        (n / 256 % 256) as u8,
-        (n / 256 / 256 % 256) as u8,
-        (n / 256 / 256 / 256 % 256) as u8,
-    ]
 }
 
 fn tick(s: &mut [u8], nmi: bool, wait: u32, clock: u64)

@@ -16,6 +16,7 @@ use crate::way::line_at;
 use crate::way::wait_at;
 use bench::ring::more_kept;
 use bench::ring::slot_after;
+use benchfile::word::byte;
 use entry::slot_bytes;
 use fields::four_bytes;
 use fields::put;
@@ -73,7 +74,6 @@ fn put_quiet(out: &mut [u8], held: bool, edge: bool)
     put(out, 3, &none);
 }
 
-// The record is written last: the machine's bytes are read again at the next call, and so are out of the way first.
 pub fn rest(machine: &mut [u8], entries: &mut [u8], out: &mut [u8])
     ensures { λ _. ⌜ resting (now (machine .exit)) (now (entries .exit)) (now (out .exit)) ≡ rested (now (machine .entry)) (now (entries .entry)) (now (out .entry)) ⌝ }
 {
@@ -81,11 +81,12 @@ pub fn rest(machine: &mut [u8], entries: &mut [u8], out: &mut [u8])
     let slot = slot_at(machine);
     let kept = kept_at(machine);
     let length = length_at(machine);
-    let wait = wait_at(e);
-    let clock = clock_at(e);
-    let nmi = line_at(e);
+    let wait = wait_at(machine);
+    let clock = clock_at(machine);
+    let nmi = line_at(machine);
+    let was = byte(machine, 56);
+    put_slot(entries, slot as usize, e);
     tick(machine, nmi, wait, clock);
     count(machine, slot as usize, kept as usize, length as usize);
-    put_quiet(out, 0 < wait, nmi & !(e[56] == 1));
-    put_slot(entries, slot as usize, e);
+    put_quiet(out, 0 < wait, nmi & !(was == 1));
 }

@@ -4,8 +4,35 @@ use borrow.Author.Needs.{needs}
 use Rattle.player_abi.proofs.carry.after_move.Statement.{statement}
 use Rattle.player_abi.proofs.carry.after_move.Tie as tie
 
+slice-aggregate-base-at : tie.Need-slice-aggregate-base-at
+slice-aggregate-base-at c = search needs
+
 base-at-requires : tie.Need-base-at-requires
 base-at-requires c κs = search needs
+
+slice-aggregate-line-at : tie.Need-slice-aggregate-line-at
+slice-aggregate-line-at c = search needs
+
+line-at-requires : tie.Need-line-at-requires
+line-at-requires c κs = search needs
+
+slice-aggregate-unit-at : tie.Need-slice-aggregate-unit-at
+slice-aggregate-unit-at c = search needs
+
+unit-at-requires : tie.Need-unit-at-requires
+unit-at-requires c κs = search needs
+
+wrapping-add-u32-requires : tie.Need-wrapping-add-u32-requires
+wrapping-add-u32-requires c κs = search needs
+
+slice-aggregate-clock-at : tie.Need-slice-aggregate-clock-at
+slice-aggregate-clock-at c = search needs
+
+clock-at-requires : tie.Need-clock-at-requires
+clock-at-requires c κs = search needs
+
+wrapping-add-u64-requires : tie.Need-wrapping-add-u64-requires
+wrapping-add-u64-requires c κs = search needs
 
 next-wmadd-requires : tie.Need-next-wmadd-requires
 next-wmadd-requires c κs = search needs
@@ -31,11 +58,8 @@ slice-aggregate-put-4 c = search needs
 put-requires-2 : tie.Need-put-requires-2
 put-requires-2 c κs = search needs
 
-line-at-requires : tie.Need-line-at-requires
-line-at-requires c κs = search needs
-
-cast-join4 : tie.Need-cast-join4
-cast-join4 c = search needs
+cast-next-a1t : tie.Need-cast-next-a1t
+cast-next-a1t c = search needs
 
 slice-aggregate-put-5 : tie.Need-slice-aggregate-put-5
 slice-aggregate-put-5 c = search needs
@@ -45,24 +69,6 @@ slice-aggregate-put-6 c = search needs
 
 put-requires-3 : tie.Need-put-requires-3
 put-requires-3 c κs = search needs
-
-array-read-join4 : tie.Need-array-read-join4
-array-read-join4 c = search needs
-
-array-read-join4-2 : tie.Need-array-read-join4-2
-array-read-join4-2 c = search needs
-
-array-read-join4-3 : tie.Need-array-read-join4-3
-array-read-join4-3 c = search needs
-
-array-read-join4-4 : tie.Need-array-read-join4-4
-array-read-join4-4 c = search needs
-
-join4-requires : tie.Need-join4-requires
-join4-requires c κs = search needs
-
-wrapping-add-u32-requires : tie.Need-wrapping-add-u32-requires
-wrapping-add-u32-requires c κs = search needs
 
 four-bytes-requires : tie.Need-four-bytes-requires
 four-bytes-requires c κs = search needs
@@ -89,13 +95,13 @@ put-requires-5 : tie.Need-put-requires-5
 put-requires-5 c κs = search needs
 
 array-read-next-a1t : tie.Need-array-read-next-a1t
-array-read-next-a1t c = omega (arith, in-image ((c .before .before .before .before .before .before .before .before .before .before .before .before .before .before .before .before .before .before .before .before .before .before .before .before .before .before .before .before .args .t1)) ((c .before .before .before .before .before .before .before .before .before .before .before .before .before .before .before .before .before .before .before .before .before .before .before .before .before .before .before .base-at .ensures)))
+array-read-next-a1t c = omega (arith, in-image ((c .before .before .before .before .before .before .before .before .before .before .before .before .before .before .before .before .before .before .before .before .before .before .before .before .before .before .before .before .before .before .before .before .before .before .args .t1)) ((c .before .before .before .before .before .before .before .before .before .before .before .before .before .before .before .before .before .before .before .before .before .before .before .before .before .before .before .before .before .before .before .before .base-at .ensures)))
 
 add-word-at : tie.Need-add-word-at
-add-word-at c = omega (arith, in-image ((c .before .before .before .before .before .before .before .before .before .before .before .before .before .before .before .before .before .before .before .before .before .before .before .before .before .before .before .before .args .t1)) ((c .before .before .before .before .before .before .before .before .before .before .before .before .before .before .before .before .before .before .before .before .before .before .before .before .before .before .before .base-at .ensures)))
+add-word-at c = omega (arith, in-image ((c .before .before .before .before .before .before .before .before .before .before .before .before .before .before .before .before .before .before .before .before .before .before .before .before .before .before .before .before .before .before .before .before .before .before .args .t1)) ((c .before .before .before .before .before .before .before .before .before .before .before .before .before .before .before .before .before .before .before .before .before .before .before .before .before .before .before .before .before .before .before .before .base-at .ensures)))
 
 word-at-requires : tie.Need-word-at-requires
-word-at-requires c κs = omega (arith, in-image ((c .before .before .before .before .before .before .before .before .before .before .before .before .before .before .before .before .before .before .before .before .before .before .before .before .before .before .before .before .args .t1)) ((c .before .before .before .before .before .before .before .before .before .before .before .before .before .before .before .before .before .before .before .before .before .before .before .before .before .before .before .base-at .ensures)))
+word-at-requires c κs = omega (arith, in-image ((c .before .before .before .before .before .before .before .before .before .before .before .before .before .before .before .before .before .before .before .before .before .before .before .before .before .before .before .before .before .before .before .before .before .before .args .t1)) ((c .before .before .before .before .before .before .before .before .before .before .before .before .before .before .before .before .before .before .before .before .before .before .before .before .before .before .before .before .before .before .before .before .base-at .ensures)))
 
 next-a1t-requires : tie.Need-next-a1t-requires
 next-a1t-requires c κs = search needs
@@ -107,7 +113,7 @@ slice-aggregate-put-11 : tie.Need-slice-aggregate-put-11
 slice-aggregate-put-11 c = search needs
 
 add-put : tie.Need-add-put
-add-put c = omega (arith, in-image ((c .before .before .before .before .before .before .before .before .before .before .before .before .before .before .before .before .before .before .before .before .before .before .before .before .before .before .before .before .before .before .before .before .args .t1)) ((c .before .before .before .before .before .before .before .before .before .before .before .before .before .before .before .before .before .before .before .before .before .before .before .before .before .before .before .before .before .before .before .base-at .ensures)))
+add-put c = omega (arith, in-image ((c .before .before .before .before .before .before .before .before .before .before .before .before .before .before .before .before .before .before .before .before .before .before .before .before .before .before .before .before .before .before .before .before .before .before .before .before .before .before .args .t1)) ((c .before .before .before .before .before .before .before .before .before .before .before .before .before .before .before .before .before .before .before .before .before .before .before .before .before .before .before .before .before .before .before .before .before .before .before .before .base-at .ensures)))
 
 slice-aggregate-put-12 : tie.Need-slice-aggregate-put-12
 slice-aggregate-put-12 c = search needs
@@ -116,10 +122,10 @@ put-requires-6 : tie.Need-put-requires-6
 put-requires-6 c κs = search needs
 
 add-word-at-2 : tie.Need-add-word-at-2
-add-word-at-2 c = omega (arith, in-image ((c .before .before .before .before .before .before .before .before .before .before .before .before .before .before .before .before .before .before .before .before .before .before .before .before .before .before .before .before .before .before .before .before .before .before .before .args .t1)) ((c .before .before .before .before .before .before .before .before .before .before .before .before .before .before .before .before .before .before .before .before .before .before .before .before .before .before .before .before .before .before .before .before .before .before .base-at .ensures)))
+add-word-at-2 c = omega (arith, in-image ((c .before .before .before .before .before .before .before .before .before .before .before .before .before .before .before .before .before .before .before .before .before .before .before .before .before .before .before .before .before .before .before .before .before .before .before .before .before .before .before .before .before .args .t1)) ((c .before .before .before .before .before .before .before .before .before .before .before .before .before .before .before .before .before .before .before .before .before .before .before .before .before .before .before .before .before .before .before .before .before .before .before .before .before .before .before .base-at .ensures)))
 
 word-at-requires-2 : tie.Need-word-at-requires-2
-word-at-requires-2 c κs = omega (arith, in-image ((c .before .before .before .before .before .before .before .before .before .before .before .before .before .before .before .before .before .before .before .before .before .before .before .before .before .before .before .before .before .before .before .before .before .before .before .args .t1)) ((c .before .before .before .before .before .before .before .before .before .before .before .before .before .before .before .before .before .before .before .before .before .before .before .before .before .before .before .before .before .before .before .before .before .before .base-at .ensures)))
+word-at-requires-2 c κs = omega (arith, in-image ((c .before .before .before .before .before .before .before .before .before .before .before .before .before .before .before .before .before .before .before .before .before .before .before .before .before .before .before .before .before .before .before .before .before .before .before .before .before .before .before .before .before .args .t1)) ((c .before .before .before .before .before .before .before .before .before .before .before .before .before .before .before .before .before .before .before .before .before .before .before .before .before .before .before .before .before .before .before .before .before .before .before .before .before .before .before .base-at .ensures)))
 
 dec16-requires : tie.Need-dec16-requires
 dec16-requires c κs = search needs
@@ -131,7 +137,7 @@ slice-aggregate-put-13 : tie.Need-slice-aggregate-put-13
 slice-aggregate-put-13 c = search needs
 
 add-put-2 : tie.Need-add-put-2
-add-put-2 c = omega (arith, in-image ((c .before .before .before .before .before .before .before .before .before .before .before .before .before .before .before .before .before .before .before .before .before .before .before .before .before .before .before .before .before .before .before .before .before .before .before .before .before .before .before .args .t1)) ((c .before .before .before .before .before .before .before .before .before .before .before .before .before .before .before .before .before .before .before .before .before .before .before .before .before .before .before .before .before .before .before .before .before .before .before .before .before .before .base-at .ensures)))
+add-put-2 c = omega (arith, in-image ((c .before .before .before .before .before .before .before .before .before .before .before .before .before .before .before .before .before .before .before .before .before .before .before .before .before .before .before .before .before .before .before .before .before .before .before .before .before .before .before .before .before .before .before .before .before .args .t1)) ((c .before .before .before .before .before .before .before .before .before .before .before .before .before .before .before .before .before .before .before .before .before .before .before .before .before .before .before .before .before .before .before .before .before .before .before .before .before .before .before .before .before .before .before .base-at .ensures)))
 
 slice-aggregate-put-14 : tie.Need-slice-aggregate-put-14
 slice-aggregate-put-14 c = search needs
@@ -151,12 +157,6 @@ slice-aggregate-put-16 c = search needs
 put-requires-8 : tie.Need-put-requires-8
 put-requires-8 c κs = search needs
 
-clock-at-requires : tie.Need-clock-at-requires
-clock-at-requires c κs = search needs
-
-wrapping-add-u64-requires : tie.Need-wrapping-add-u64-requires
-wrapping-add-u64-requires c κs = search needs
-
 slice-aggregate-put-eight : tie.Need-slice-aggregate-put-eight
 slice-aggregate-put-eight c = search needs
 
@@ -164,13 +164,22 @@ put-eight-requires : tie.Need-put-eight-requires
 put-eight-requires c κs = search needs
 
 returns : tie.Need-returns
-returns c = after-by ((c .before .before .before .before .before .before .before .before .before .before .before .before .before .before .before .before .before .before .before .before .before .before .before .before .before .before .before .before .before .before .before .before .before .before .before .before .before .before .before .before .before .before .before .before .before .before .before .before .before .before .before .before .args .t1)) ((c .before .before .before .before .before .before .before .before .before .before .before .before .before .before .before .before .before .before .before .before .before .before .before .before .before .before .before .before .before .before .before .before .before .before .before .before .before .before .before .before .before .before .before .before .before .before .before .before .before .before .before .before .args .byte)) ((c .before .before .before .before .before .before .before .before .before .before .before .before .before .before .before .before .before .before .before .before .before .before .before .before .before .before .before .before .before .before .before .before .before .before .before .before .before .before .before .before .before .before .before .before .before .before .before .before .before .before .before .base-at .ensures)) ((c .before .before .before .before .before .before .before .before .before .before .before .before .before .before .before .before .before .before .before .before .before .before .before .before .before .before .before .before .before .before .before .before .before .before .before .before .before .before .before .before .before .before .before .before .before .before .before .before .before .before .next-wmadd .ensures)) ((c .before .before .before .before .before .before .before .before .before .before .before .before .before .before .before .before .before .before .before .before .before .before .before .before .before .before .before .before .before .before .before .before .before .before .before .before .before .before .before .before .before .before .before .before .before .before .before .before .before .wmadd-bytes .ensures)) ((c .before .before .before .before .before .before .before .before .before .before .before .before .before .before .before .before .before .before .before .before .before .before .before .before .before .before .before .before .before .before .before .before .before .before .before .before .before .before .before .before .before .before .before .before .before .before .put .ensures)) ((c .before .before .before .before .before .before .before .before .before .before .before .before .before .before .before .before .before .before .before .before .before .before .before .before .before .before .before .before .before .before .before .before .before .before .before .before .before .before .before .before .before .before .put2 .ensures)) ((c .before .before .before .before .before .before .before .before .before .before .before .before .before .before .before .before .before .before .before .before .before .before .before .before .before .before .before .before .before .before .before .before .before .before .before .before .before .before .before .before .line-at .ensures)) ((c .before .before .before .before .before .before .before .before .before .before .before .before .before .before .before .before .before .before .before .before .before .before .before .before .before .before .before .before .before .before .before .before .before .before .before .before .before .put3 .ensures)) ((c .before .before .before .before .before .before .before .before .before .before .before .before .before .before .before .before .before .before .before .before .before .before .before .before .before .before .before .before .before .before .before .before .before .before .before .join4 .ensures)) ((c .before .before .before .before .before .before .before .before .before .before .before .before .before .before .before .before .before .before .before .before .before .before .before .before .before .before .before .before .before .before .before .before .before .before .wrapping-add-u32 .ensures)) ((c .before .before .before .before .before .before .before .before .before .before .before .before .before .before .before .before .before .before .before .before .before .before .before .before .before .before .before .before .before .before .before .before .before .four-bytes .ensures)) ((c .before .before .before .before .before .before .before .before .before .before .before .before .before .before .before .before .before .before .before .before .before .before .before .before .before .before .before .before .before .before .put4 .ensures)) ((c .before .before .before .before .before .before .before .before .before .before .before .before .before .before .before .before .before .before .before .before .before .before .before .before .before .before .before .before .four-bytes2 .ensures)) ((c .before .before .before .before .before .before .before .before .before .before .before .before .before .before .before .before .before .before .before .before .before .before .before .before .before .put5 .ensures)) ((c .before .before .before .before .before .before .before .before .before .before .before .before .before .before .before .before .before .before .before .before .before .before .before .word-at .ensures)) ((c .before .before .before .before .before .before .before .before .before .before .before .before .before .before .before .before .before .before .before .before .before .before .next-a1t .ensures)) ((c .before .before .before .before .before .before .before .before .before .before .before .before .before .before .before .before .before .before .before .before .before .two-bytes .ensures)) ((c .before .before .before .before .before .before .before .before .before .before .before .before .before .before .before .before .before .before .put6 .ensures)) ((c .before .before .before .before .before .before .before .before .before .before .before .before .before .before .before .before .word-at2 .ensures)) ((c .before .before .before .before .before .before .before .before .before .before .before .before .before .before .before .dec16 .ensures)) ((c .before .before .before .before .before .before .before .before .before .before .before .before .before .before .two-bytes2 .ensures)) ((c .before .before .before .before .before .before .before .before .before .before .before .put7 .ensures)) ((c .before .before .before .before .before .before .before .before .before .next-written .ensures)) ((c .before .before .before .before .before .before .put8 .ensures)) ((c .before .before .before .before .clock-at .ensures)) ((c .before .before .before .wrapping-add-u64 .ensures)) ((c .before .put-eight .ensures))
+returns c = after-by ((c .before .before .before .before .before .before .before .before .before .before .before .before .before .before .before .before .before .before .before .before .before .before .before .before .before .before .before .before .before .before .before .before .before .before .before .before .before .before .before .before .before .before .before .before .before .before .before .before .before .before .before .before .before .before .before .before .args .t1)) ((c .before .before .before .before .before .before .before .before .before .before .before .before .before .before .before .before .before .before .before .before .before .before .before .before .before .before .before .before .before .before .before .before .before .before .before .before .before .before .before .before .before .before .before .before .before .before .before .before .before .before .before .before .before .before .before .before .args .byte)) ((c .before .before .before .before .before .before .before .before .before .before .before .before .before .before .before .before .before .before .before .before .before .before .before .before .before .before .before .before .before .before .before .before .before .before .before .before .before .before .before .before .before .before .before .before .before .before .before .before .before .before .before .before .before .before .base-at .ensures)) ((c .before .before .before .before .before .before .before .before .before .before .before .before .before .before .before .before .before .before .before .before .before .before .before .before .before .before .before .before .before .before .before .before .before .before .before .before .before .before .before .before .before .before .before .before .before .next-wmadd .ensures)) ((c .before .before .before .before .before .before .before .before .before .before .before .before .before .before .before .before .before .before .before .before .before .before .before .before .before .before .before .before .before .before .before .before .before .before .before .before .before .before .before .before .before .before .before .before .wmadd-bytes .ensures)) ((c .before .before .before .before .before .before .before .before .before .before .before .before .before .before .before .before .before .before .before .before .before .before .before .before .before .before .before .before .before .before .before .before .before .before .before .before .before .before .before .before .before .put .ensures)) ((c .before .before .before .before .before .before .before .before .before .before .before .before .before .before .before .before .before .before .before .before .before .before .before .before .before .before .before .before .before .before .before .before .before .before .before .before .before .put2 .ensures)) ((c .before .before .before .before .before .before .before .before .before .before .before .before .before .before .before .before .before .before .before .before .before .before .before .before .before .before .before .before .before .before .before .before .before .before .before .before .before .before .before .before .before .before .before .before .before .before .before .before .before .before .before .before .line-at .ensures)) ((c .before .before .before .before .before .before .before .before .before .before .before .before .before .before .before .before .before .before .before .before .before .before .before .before .before .before .before .before .before .before .before .before .before .put3 .ensures)) ((c .before .before .before .before .before .before .before .before .before .before .before .before .before .before .before .before .before .before .before .before .before .before .before .before .before .before .before .before .before .before .before .before .before .before .before .before .before .before .before .before .before .before .before .before .before .before .before .before .before .before .unit-at .ensures)) ((c .before .before .before .before .before .before .before .before .before .before .before .before .before .before .before .before .before .before .before .before .before .before .before .before .before .before .before .before .before .before .before .before .before .before .before .before .before .before .before .before .before .before .before .before .before .before .before .before .before .wrapping-add-u32 .ensures)) ((c .before .before .before .before .before .before .before .before .before .before .before .before .before .before .before .before .before .before .before .before .before .before .before .before .before .before .before .before .before .before .before .four-bytes .ensures)) ((c .before .before .before .before .before .before .before .before .before .before .before .before .before .before .before .before .before .before .before .before .before .before .before .before .before .before .before .before .put4 .ensures)) ((c .before .before .before .before .before .before .before .before .before .before .before .before .before .before .before .before .before .before .before .before .before .before .before .before .before .before .four-bytes2 .ensures)) ((c .before .before .before .before .before .before .before .before .before .before .before .before .before .before .before .before .before .before .before .before .before .before .before .put5 .ensures)) ((c .before .before .before .before .before .before .before .before .before .before .before .before .before .before .before .before .before .before .before .before .before .word-at .ensures)) ((c .before .before .before .before .before .before .before .before .before .before .before .before .before .before .before .before .before .before .before .before .next-a1t .ensures)) ((c .before .before .before .before .before .before .before .before .before .before .before .before .before .before .before .before .before .before .before .two-bytes .ensures)) ((c .before .before .before .before .before .before .before .before .before .before .before .before .before .before .before .before .put6 .ensures)) ((c .before .before .before .before .before .before .before .before .before .before .before .before .before .before .word-at2 .ensures)) ((c .before .before .before .before .before .before .before .before .before .before .before .before .before .dec16 .ensures)) ((c .before .before .before .before .before .before .before .before .before .before .before .before .two-bytes2 .ensures)) ((c .before .before .before .before .before .before .before .before .before .put7 .ensures)) ((c .before .before .before .before .before .before .before .next-written .ensures)) ((c .before .before .before .before .put8 .ensures)) ((c .before .before .before .before .before .before .before .before .before .before .before .before .before .before .before .before .before .before .before .before .before .before .before .before .before .before .before .before .before .before .before .before .before .before .before .before .before .before .before .before .before .before .before .before .before .before .before .clock-at .ensures)) ((c .before .before .before .before .before .before .before .before .before .before .before .before .before .before .before .before .before .before .before .before .before .before .before .before .before .before .before .before .before .before .before .before .before .before .before .before .before .before .before .before .before .before .before .before .before .before .wrapping-add-u64 .ensures)) ((c .before .put-eight .ensures))
 
 pub after-move-spec : {M : Type 1} → statement M
 after-move-spec =
     tie.close
     (tie.spec
+    slice-aggregate-base-at
     base-at-requires
+    slice-aggregate-line-at
+    line-at-requires
+    slice-aggregate-unit-at
+    unit-at-requires
+    wrapping-add-u32-requires
+    slice-aggregate-clock-at
+    clock-at-requires
+    wrapping-add-u64-requires
     next-wmadd-requires
     wmadd-bytes-requires
     slice-aggregate-put
@@ -179,17 +188,10 @@ after-move-spec =
     slice-aggregate-put-3
     slice-aggregate-put-4
     put-requires-2
-    line-at-requires
-    cast-join4
+    cast-next-a1t
     slice-aggregate-put-5
     slice-aggregate-put-6
     put-requires-3
-    array-read-join4
-    array-read-join4-2
-    array-read-join4-3
-    array-read-join4-4
-    join4-requires
-    wrapping-add-u32-requires
     four-bytes-requires
     slice-aggregate-put-7
     slice-aggregate-put-8
@@ -219,8 +221,6 @@ after-move-spec =
     slice-aggregate-put-15
     slice-aggregate-put-16
     put-requires-8
-    clock-at-requires
-    wrapping-add-u64-requires
     slice-aggregate-put-eight
     put-eight-requires
     returns)

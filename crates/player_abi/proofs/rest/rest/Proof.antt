@@ -24,20 +24,20 @@ clock-at-requires c κs = search needs
 line-at-requires : tie.Need-line-at-requires
 line-at-requires c κs = search needs
 
+byte-requires : tie.Need-byte-requires
+byte-requires c κs = search needs
+
+put-slot-requires : tie.Need-put-slot-requires
+put-slot-requires c κs = search needs
+
 tick-requires : tie.Need-tick-requires
 tick-requires c κs = search needs
 
 count-requires : tie.Need-count-requires
 count-requires c κs = search needs
 
-array-read-put-quiet : tie.Need-array-read-put-quiet
-array-read-put-quiet c = search needs
-
 put-quiet-requires : tie.Need-put-quiet-requires
 put-quiet-requires c κs = search needs
-
-put-slot-requires : tie.Need-put-slot-requires
-put-slot-requires c κs = search needs
 
 same-length : tie.Need-same-length
 same-length c = search needs
@@ -49,7 +49,7 @@ same-length-3 : tie.Need-same-length-3
 same-length-3 c = search needs
 
 returns : tie.Need-returns
-returns c = rested-by ((c .before .before .before .before .before .before .before .before .before .before .before .before .before .before .before .before .before .before .before .before .before .before .before .before .before .before .before .before .before .before .args .machine .now)) ((c .before .before .before .before .before .before .before .before .before .before .before .before .before .before .before .before .before .before .before .before .before .before .before .before .before .before .before .before .before .before .args .entries .now)) ((c .before .before .before .before .before .before .before .before .before .before .before .before .before .before .before .before .before .before .before .before .before .before .before .before .before .before .before .before .before .before .args .out .now)) ((c .before .before .before .before .before .before .before .before .before .before .before .before .before .before .before .before .before .before .before .before .before .before .before .before .before .slot-bytes .ensures)) ((c .before .before .before .before .before .before .before .before .before .before .before .before .before .before .before .before .before .before .before .before .before .before .before .slot-at .ensures)) ((c .before .before .before .before .before .before .before .before .before .before .before .before .before .before .before .before .before .before .before .before .before .kept-at .ensures)) ((c .before .before .before .before .before .before .before .before .before .before .before .before .before .before .before .before .before .before .before .length-at .ensures)) ((c .before .before .before .before .before .before .before .before .before .before .before .before .before .before .before .before .before .before .wait-at .ensures)) ((c .before .before .before .before .before .before .before .before .before .before .before .before .before .before .before .before .before .clock-at .ensures)) ((c .before .before .before .before .before .before .before .before .before .before .before .before .before .before .before .before .line-at .ensures)) ((c .before .before .put-slot .ensures)) ((c .before .before .before .before .before .before .before .before .before .before .before .before .before .before .tick .ensures)) ((c .before .before .before .before .before .before .before .before .before .before .count .ensures)) ((c .before .before .before .before .before .before .put-quiet .ensures))
+returns c = rested-by ((c .before .before .before .before .before .before .before .before .before .before .before .before .before .before .before .before .before .before .before .before .before .before .before .before .before .before .before .before .before .before .before .before .before .before .before .args .machine .now)) ((c .before .before .before .before .before .before .before .before .before .before .before .before .before .before .before .before .before .before .before .before .before .before .before .before .before .before .before .before .before .before .before .before .before .before .before .args .entries .now)) ((c .before .before .before .before .before .before .before .before .before .before .before .before .before .before .before .before .before .before .before .before .before .before .before .before .before .before .before .before .before .before .before .before .before .before .before .args .out .now)) ((c .before .before .before .before .before .before .before .before .before .before .before .before .before .before .before .before .before .before .before .before .before .before .before .before .before .before .before .before .before .before .slot-bytes .ensures)) ((c .before .before .before .before .before .before .before .before .before .before .before .before .before .before .before .before .before .before .before .before .before .before .before .before .before .before .before .before .slot-at .ensures)) ((c .before .before .before .before .before .before .before .before .before .before .before .before .before .before .before .before .before .before .before .before .before .before .before .before .before .before .kept-at .ensures)) ((c .before .before .before .before .before .before .before .before .before .before .before .before .before .before .before .before .before .before .before .before .before .before .before .before .length-at .ensures)) ((c .before .before .before .before .before .before .before .before .before .before .before .before .before .before .before .before .before .before .before .before .before .before .wait-at .ensures)) ((c .before .before .before .before .before .before .before .before .before .before .before .before .before .before .before .before .before .before .before .before .clock-at .ensures)) ((c .before .before .before .before .before .before .before .before .before .before .before .before .before .before .before .before .before .before .line-at .ensures)) ((c .before .before .before .before .before .before .before .before .before .before .before .before .before .before .before .before .byte .ensures)) ((c .before .before .before .before .before .before .before .before .before .before .before .before .before .before .put-slot .ensures)) ((c .before .before .before .before .before .before .before .before .before .before .tick .ensures)) ((c .before .before .before .before .before .before .count .ensures)) ((c .before .before .put-quiet .ensures))
 
 pub rest-spec : {M : Type 1} → statement M
 rest-spec =
@@ -62,11 +62,11 @@ rest-spec =
     wait-at-requires
     clock-at-requires
     line-at-requires
+    byte-requires
+    put-slot-requires
     tick-requires
     count-requires
-    array-read-put-quiet
     put-quiet-requires
-    put-slot-requires
     same-length
     same-length-2
     same-length-3

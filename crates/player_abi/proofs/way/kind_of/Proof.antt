@@ -1,4 +1,6 @@
 use mathlib.Core.Path.{sym, refl, _∙_}
+use Rattle.image.specs.Encode.{entrySize}
+use Rattle.entry.specs.Slot.{readSlot}
 use Rattle.ranges.specs.Entry.{entryOk}
 use Rattle.player_abi.proofs.WayJoin.{either}
 use Rattle.player_abi.specs.Way.{kindOf}
@@ -12,20 +14,20 @@ calm-at-requires c κs = search needs
 turn-of-requires : tie.Need-turn-of-requires
 turn-of-requires c κs = search needs
 
-entry-ok-requires : tie.Need-entry-ok-requires
-entry-ok-requires c κs = search needs
+image-ok-requires : tie.Need-image-ok-requires
+image-ok-requires c κs = search needs
 
 returns : tie.Need-returns
 unfolding kindOf
-returns c = rw (sym ((c .before .before .before .before .before .calm-at .ensures)) ∙ (c .before .before .before .before .if1 .taken), sym ((c .before .entry-ok .ensures)) ∙ (c .if3 .taken)) ((c .before .before .before .turn-of .ensures))
+returns c = rw (sym ((c .before .before .before .before .before .calm-at .ensures)) ∙ (c .before .before .before .before .if1 .taken), sym ((c .before .image-ok .ensures)) ∙ (c .if3 .taken)) ((c .before .before .before .turn-of .ensures))
 
 returns-2 : tie.Need-returns-2
 unfolding kindOf
-returns-2 c = rw (sym ((c .before .before .before .before .before .calm-at .ensures)) ∙ (c .before .before .before .before .if1 .taken), sym ((c .before .entry-ok .ensures)) ∙ (c .if3 .left)) refl
+returns-2 c = rw (sym ((c .before .before .before .before .before .calm-at .ensures)) ∙ (c .before .before .before .before .if1 .taken), sym ((c .before .image-ok .ensures)) ∙ (c .if3 .left)) refl
 
 returns-3 : tie.Need-returns-3
 unfolding kindOf
-returns-3 c = rw (sym ((c .before .before .before .calm-at .ensures)) ∙ (c .before .before .if1 .taken)) (either (entryOk ((c .before .before .before .before .args .e))) (sym ((c .before .turn-of .ensures)) ∙ (c .if2 .left)))
+returns-3 c = rw (sym ((c .before .before .before .calm-at .ensures)) ∙ (c .before .before .if1 .taken)) (either (entryOk (readSlot entrySize 0 ((c .before .before .before .before .before .args .s .now)))) (sym ((c .before .turn-of .ensures)) ∙ (c .if2 .left)))
 
 returns-4 : tie.Need-returns-4
 unfolding kindOf
@@ -37,7 +39,7 @@ kind-of-spec =
     (tie.spec
     calm-at-requires
     turn-of-requires
-    entry-ok-requires
+    image-ok-requires
     returns
     returns-2
     returns-3

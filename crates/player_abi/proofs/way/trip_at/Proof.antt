@@ -8,26 +8,26 @@ base-at-requires c κs = search needs
 port-at-requires : tie.Need-port-at-requires
 port-at-requires c κs = search needs
 
-array-read-trip-of : tie.Need-array-read-trip-of
-array-read-trip-of c = search needs
+byte-requires : tie.Need-byte-requires
+byte-requires c κs = search needs
 
-add-trip-of : tie.Need-add-trip-of
-add-trip-of c = search needs
+add-byte : tie.Need-add-byte
+add-byte c = search needs
 
-array-read-trip-of-2 : tie.Need-array-read-trip-of-2
-array-read-trip-of-2 c = search needs
+byte-requires-2 : tie.Need-byte-requires-2
+byte-requires-2 c κs = search needs
 
-add-word-at : tie.Need-add-word-at
-add-word-at c = search needs
+add-two : tie.Need-add-two
+add-two c = search needs
 
-word-at-requires : tie.Need-word-at-requires
-word-at-requires c κs = search needs
+two-requires : tie.Need-two-requires
+two-requires c κs = search needs
 
 trip-of-requires : tie.Need-trip-of-requires
 trip-of-requires c κs = search needs
 
 returns : tie.Need-returns
-returns c = simp ((c .trip-of .ensures), (c .before .word-at .ensures), (c .before .before .port-at .ensures), (c .before .before .before .base-at .ensures))
+returns c = simp ((c .trip-of .ensures), (c .before .before .before .byte .ensures), (c .before .before .byte2 .ensures), (c .before .two .ensures), (c .before .before .before .before .port-at .ensures), (c .before .before .before .before .before .base-at .ensures))
 
 pub trip-at-spec : {M : Type 1} → statement M
 trip-at-spec =
@@ -35,10 +35,10 @@ trip-at-spec =
     (tie.spec
     base-at-requires
     port-at-requires
-    array-read-trip-of
-    add-trip-of
-    array-read-trip-of-2
-    add-word-at
-    word-at-requires
+    byte-requires
+    add-byte
+    byte-requires-2
+    add-two
+    two-requires
     trip-of-requires
     returns)

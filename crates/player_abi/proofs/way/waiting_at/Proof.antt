@@ -5,15 +5,14 @@ use Rattle.player_abi.proofs.way.waiting_at.Tie as tie
 wait-at-requires : tie.Need-wait-at-requires
 wait-at-requires c κs = search needs
 
-array-read-result : tie.Need-array-read-result
-array-read-result c = search needs
+byte-requires : tie.Need-byte-requires
+byte-requires c κs = search needs
 
-array-read-result-2 : tie.Need-array-read-result-2
-array-read-result-2 c = search needs
+byte-requires-2 : tie.Need-byte-requires-2
+byte-requires-2 c κs = search needs
 
 returns : tie.Need-returns
-returns c = simp ((c .wait-at .ensures))
+returns c = simp ((c .before .before .wait-at .ensures), (c .before .byte .ensures), (c .byte2 .ensures))
 
 pub waiting-at-spec : {M : Type 1} → statement M
-waiting-at-spec =
-    tie.close (tie.spec wait-at-requires array-read-result array-read-result-2 returns)
+waiting-at-spec = tie.close (tie.spec wait-at-requires byte-requires byte-requires-2 returns)

@@ -1,9 +1,9 @@
-use mathlib.Core.Path.{sym, refl, ap, _∙_}
+use mathlib.Core.Path.{sym, refl, _∙_}
 use mathlib.Core.Bool.{_&&_}
 use borrow.Author.Tests.{eq-eqb, ne-eqb}
 use lib.ListN.{length}
 use Rattle.ranges.specs.Tests.{all}
-use Rattle.player_abi.specs.Way.{lentTests, kindOf, wayOf}
+use Rattle.player_abi.specs.Way.{lentTests, wayOf}
 use borrow.Author.Needs.{needs}
 use Rattle.player_abi.proofs.way.way_of.Statement.{statement}
 use Rattle.player_abi.proofs.way.way_of.Tie as tie
@@ -27,15 +27,12 @@ plain-requires c κs = search needs
 lent-ok-requires : tie.Need-lent-ok-requires
 lent-ok-requires c κs = search needs
 
-slot-bytes-requires : tie.Need-slot-bytes-requires
-slot-bytes-requires c κs = search needs
-
 kind-of-requires : tie.Need-kind-of-requires
 kind-of-requires c κs = search needs
 
 returns-2 : tie.Need-returns-2
 unfolding wayOf
-returns-2 c = let lent = (c .before .before .before .lent-ok .ensures) ∙ (λ i. all (lentTests ((c .before .before .before .before .before .before .before .before .before .before .args .low)) ((c .before .before .before .before .before .before .before .before .before .before .args .high)) ((c .before .before .before .before .before .before .before .before .before .before .args .room)) ((c .before .before .before .before .before .before .before .before .before .before .args .rom)) ((c .before .before .before .before .before .before .before .length-at .ensures) i) ((c .before .before .before .before .before .before .slot-at .ensures) i) ((c .before .before .before .before .before .kept-at .ensures) i))) in rw (eq-eqb (length ((c .before .before .before .before .before .before .before .before .before .before .args .s .now))) 280 ((c .before .before .before .before .before .before .before .before .if1 .left)), sym (λ i. (c .before .before .before .before .plain .ensures) i && lent i) ∙ (c .before .before .if2 .taken)) ((c .kind-of .ensures) ∙ ap kindOf ((c .before .slot-bytes .ensures)))
+returns-2 c = let lent = (c .before .before .lent-ok .ensures) ∙ (λ i. all (lentTests ((c .before .before .before .before .before .before .before .before .before .args .low)) ((c .before .before .before .before .before .before .before .before .before .args .high)) ((c .before .before .before .before .before .before .before .before .before .args .room)) ((c .before .before .before .before .before .before .before .before .before .args .rom)) ((c .before .before .before .before .before .before .length-at .ensures) i) ((c .before .before .before .before .before .slot-at .ensures) i) ((c .before .before .before .before .kept-at .ensures) i))) in rw (eq-eqb (length ((c .before .before .before .before .before .before .before .before .before .args .s .now))) 280 ((c .before .before .before .before .before .before .before .if1 .left)), sym (λ i. (c .before .before .before .plain .ensures) i && lent i) ∙ (c .before .if2 .taken)) ((c .kind-of .ensures))
 
 returns-3 : tie.Need-returns-3
 unfolding wayOf
@@ -51,7 +48,6 @@ way-of-spec =
     kept-at-requires
     plain-requires
     lent-ok-requires
-    slot-bytes-requires
     kind-of-requires
     returns-2
     returns-3)

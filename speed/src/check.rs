@@ -52,8 +52,8 @@ fn same_cycle(
     line_due: bool,
     counts: &mut Counts,
 ) -> Result<(), &'static str> {
-    let ours = plain.cycle(event, line_due).map(|answer| Plain::bytes(&answer));
-    same("answers", ours, proved.cycle(event, line_due))?;
+    let ours = plain.answered(event, line_due);
+    same("answers", ours, proved.answered(event, line_due))?;
     let answer = ours.map_err(|_| "refusals: the script has none, so answers")?;
     counts.calls += 1;
     counts.held += u64::from(answer[0]);

@@ -9,13 +9,13 @@ const BANK_SIZE: usize = 65_536;
 const RECORD_SIZE: usize = 65_536;
 
 pub trait Player {
-    type Answer;
     fn fresh(file: &File) -> Self;
-    fn cycle(&mut self, event: u8, line_due: bool) -> Result<Self::Answer, u8>;
+    /// One cycle, after which the answer is there as a whole: returned by plain Rust, in a buffer lent to the library.
+    fn cycle(&mut self, event: u8, line_due: bool) -> Result<(), u8>;
+    /// The same, with the answer as docs/PLAYER.md has it: held, edge, count and the accesses.
+    fn answered(&mut self, event: u8, line_due: bool) -> Result<[u8; raw::ANSWER_SIZE], u8>;
     fn write(&mut self, addr: u16, byte: u8) -> Result<u8, u8>;
     fn answer(&mut self, addr: u16, byte: u8) -> Result<(), u8>;
-    /// Held, edge, count and the accesses, as docs/PLAYER.md has them.
-    fn bytes(answer: &Self::Answer) -> [u8; raw::ANSWER_SIZE];
     fn machine(&self) -> [u8; raw::MACHINE_SIZE];
     fn lent(&self) -> &Lent;
 }
@@ -43,19 +43,34 @@ impl Plain {
         let Lent { low, high, record } = &mut self.lent;
         (&mut self.machine, plain::Lent { low, high, record, rom: &[] })
     }
+
+    /// An answer in the library's bytes.
+    pub fn bytes(answer: &plain::Cycle) -> [u8; raw::ANSWER_SIZE] {
+        let mut bytes = [0; raw::ANSWER_SIZE];
+        bytes[..3].copy_from_slice(&[answer.held.into(), answer.nmi.into(), answer.accesses.count as u8]);
+        for (part, access) in bytes[3..].chunks_exact_mut(5).zip(answer.accesses.items) {
+            let [low, high] = access.addr.to_le_bytes();
+            part.copy_from_slice(&[access.write.into(), access.bank, low, high, access.byte]);
+        }
+        bytes
+    }
 }
 
 impl Player for Plain {
-    type Answer = plain::Cycle;
-
     fn fresh(file: &File) -> Self {
         let machine = plain::Machine::fresh(RECORD_SIZE, BIT_CYCLES).expect("accepted");
         Self { machine, lent: Lent::fresh(file) }
     }
 
-    fn cycle(&mut self, event: u8, line_due: bool) -> Result<plain::Cycle, u8> {
+    fn cycle(&mut self, event: u8, line_due: bool) -> Result<(), u8> {
         let (machine, lent) = self.parts();
-        machine.cycle(lent, event, line_due, false)
+        black_box(&machine.cycle(lent, event, line_due, false)?);
+        Ok(())
+    }
+
+    fn answered(&mut self, event: u8, line_due: bool) -> Result<[u8; raw::ANSWER_SIZE], u8> {
+        let (machine, lent) = self.parts();
+        machine.cycle(lent, event, line_due, false).map(|cycle| Plain::bytes(&cycle))
     }
 
     fn write(&mut self, addr: u16, byte: u8) -> Result<u8, u8> {
@@ -66,16 +81,6 @@ impl Player for Plain {
     fn answer(&mut self, addr: u16, byte: u8) -> Result<(), u8> {
         let (machine, lent) = self.parts();
         machine.answer(lent, addr, byte)
-    }
-
-    fn bytes(answer: &plain::Cycle) -> [u8; raw::ANSWER_SIZE] {
-        let mut bytes = [0; raw::ANSWER_SIZE];
-        bytes[..3].copy_from_slice(&[answer.held.into(), answer.nmi.into(), answer.accesses.count as u8]);
-        for (part, access) in bytes[3..].chunks_exact_mut(5).zip(answer.accesses.items) {
-            let [low, high] = access.addr.to_le_bytes();
-            part.copy_from_slice(&[access.write.into(), access.bank, low, high, access.byte]);
-        }
-        bytes
     }
 
     fn machine(&self) -> [u8; raw::MACHINE_SIZE] {
@@ -91,6 +96,7 @@ impl Player for Plain {
 pub struct Proved {
     machine: [u8; raw::MACHINE_SIZE],
     lent: Lent,
+    answer: [u8; raw::ANSWER_SIZE],
 }
 
 impl Proved {
@@ -105,18 +111,23 @@ fn checked<T>(number: u8, answer: T) -> Result<T, u8> {
 }
 
 impl Player for Proved {
-    type Answer = [u8; raw::ANSWER_SIZE];
-
     fn fresh(file: &File) -> Self {
         let mut machine = [0; raw::MACHINE_SIZE];
         assert_eq!(raw::fresh(&mut machine, RECORD_SIZE, BIT_CYCLES), 0);
-        Self { machine, lent: Lent::fresh(file) }
+        Self { machine, lent: Lent::fresh(file), answer: [0; raw::ANSWER_SIZE] }
     }
 
-    fn cycle(&mut self, event: u8, line_due: bool) -> Result<Self::Answer, u8> {
-        let mut answer = [0; raw::ANSWER_SIZE];
-        let number = raw::cycle(self.parts(), event, line_due, false, &mut answer);
-        checked(number, answer)
+    fn cycle(&mut self, event: u8, line_due: bool) -> Result<(), u8> {
+        let Self { machine, lent: Lent { low, high, record }, answer } = self;
+        let lent = raw::Lent { machine, low, high, record, rom: &[] };
+        let number = raw::cycle(lent, event, line_due, false, answer);
+        black_box(&self.answer);
+        checked(number, ())
+    }
+
+    fn answered(&mut self, event: u8, line_due: bool) -> Result<[u8; raw::ANSWER_SIZE], u8> {
+        self.cycle(event, line_due)?;
+        Ok(self.answer)
     }
 
     fn write(&mut self, addr: u16, byte: u8) -> Result<u8, u8> {
@@ -127,10 +138,6 @@ impl Player for Proved {
 
     fn answer(&mut self, addr: u16, byte: u8) -> Result<(), u8> {
         checked(raw::port_answer(self.parts(), addr, byte), ())
-    }
-
-    fn bytes(answer: &Self::Answer) -> [u8; raw::ANSWER_SIZE] {
-        *answer
     }
 
     fn machine(&self) -> [u8; raw::MACHINE_SIZE] {
@@ -151,15 +158,15 @@ pub fn same_lent(plain: &Plain, proved: &Proved) -> Result<(), &'static str> {
     if ours.record != theirs.record { Err("records") } else { Ok(()) }
 }
 
-/// One pass over a file's script, in which every call is accepted. Each answer is kept until it is there as a whole.
+/// One pass over a file's script, in which every call is accepted.
 pub fn pass<P: Player>(player: &mut P, file: &File) {
     use crate::files::Row;
     for row in &file.rows {
         match *row {
             Row::Cycles { count, event, line_due } => {
-                black_box(&player.cycle(event, line_due).expect("accepted"));
+                player.cycle(event, line_due).expect("accepted");
                 for _ in 1..count {
-                    black_box(&player.cycle(0, false).expect("accepted"));
+                    player.cycle(0, false).expect("accepted");
                 }
             }
             Row::Write { addr, byte } => {

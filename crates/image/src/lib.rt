@@ -12,8 +12,8 @@ use crate::dma::lines_bytes;
 use crate::olds::olds_bytes;
 use crate::pads::pads_bytes;
 use crate::register_file::answer_bytes;
-use crate::register_file::clock_bytes;
 use crate::register_file::register_bytes;
+use fields::eight_bytes;
 use fields::put;
 use state::Machine;
 use wram::Olds;
@@ -43,7 +43,7 @@ pub fn entry_bytes(m: Machine, o: Olds) -> [u8; ENTRY_SIZE]
     let p = io.ports;
     let answers = answer_bytes(p);
     put(&mut e, 194, &answers);
-    let clock = clock_bytes(m.board.clock);
+    let clock = eight_bytes(m.board.clock);
     put(&mut e, 214, &clock);
     let olds = olds_bytes(o);
     put(&mut e, 222, &olds);

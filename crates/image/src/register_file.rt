@@ -1,6 +1,5 @@
-// Places 0 to 33 of the image, the registers up to JOY4, and 194 to 221, what PPU and APU answer and the clock.
+// Places 0 to 33 of the image, the registers up to JOY4, and 194 to 213, what PPU and APU answer.
 ghost use mathlib.Core.Path.{_≡_};
-ghost use Rattle.fields.specs.Little.{le};
 ghost use Rattle.fields.specs.Bytes.{partOf};
 ghost use Rattle.image.specs.Encode.{encPorts, image};
 ghost use Rattle.image.specs.Groups.{bankByte};
@@ -89,20 +88,5 @@ pub fn answer_bytes(p: Ports) -> [u8; 20]
         written[1],
         written[2],
         written[3],
-    ]
-}
-
-pub fn clock_bytes(clock: u64) -> [u8; 8]
-    ensures { λ r. ⌜ r ≡ le 8 clock ⌝ }
-{
-    [
-        (clock % 256) as u8,
-        (clock / 256 % 256) as u8,
-        (clock / 256 / 256 % 256) as u8,
-        (clock / 256 / 256 / 256 % 256) as u8,
-        (clock / 256 / 256 / 256 / 256 % 256) as u8,
-        (clock / 256 / 256 / 256 / 256 / 256 % 256) as u8,
-        (clock / 256 / 256 / 256 / 256 / 256 / 256 % 256) as u8,
-        (clock / 256 / 256 / 256 / 256 / 256 / 256 / 256 % 256) as u8,
     ]
 }

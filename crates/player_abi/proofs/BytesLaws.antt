@@ -1,26 +1,28 @@
 -- The machine's bytes that pass the tests of the way: what they stand for, and what an exported cycle on them is.
-use Prim.Native.Nat.{ℕ, suc, _/_, _-_, _<_}
+use Prim.Native.Nat.{ℕ, zero, suc, _+_, _-_, _*_, _/_, _%_, _≤_, _<_}
 use mathlib.Core.Bool.{Bool, true, false, not, _&&_, _||_, and-eq-true-iff}
-use mathlib.Core.List.{List, [], _∷_}
+use mathlib.Core.List.{List, [], _∷_, _++_}
 use mathlib.Core.Path.{_≡_, refl, sym, ap, _∙_}
 use native.Mathlib.Omega.{arith}
 use borrow.Author.Tests.{eqb-true, not-true}
 use lib.Bits.{bitAnd}
 use lib.Dec.{eqb, leb, ltb}
-use lib.ListN.{length, getD}
+use lib.ListN.{length, getD, take, drop, take-append-drop}
+use lib.Seq.{getD-take}
 use Rattle.common.specs.Pick.{pick}
 use Rattle.common.specs.Width.{Bytes}
 use Rattle.bench.specs.Calls.{desk, lentOf, cycleCall, cycleDone, cycleRefused}
 use Rattle.bench.specs.Refusal.{banksOff, recordOff, romOff, lentNumber, alsoOf, cycleNumber}
 use Rattle.bench.specs.Ring.{bench}
 use Rattle.bench.specs.declared.Bench.{Bench}
+use Rattle.bus.specs.Route.{routeOf}
 use Rattle.decode.specs.Decode.{ioAt, dmaAt, boardAt, machineAt, oldsAt}
 use Rattle.decode.proofs.Accepted.{machine-ok}
 use Rattle.entry.specs.Entry.{decode, decodeAt}
 use Rattle.entry.specs.Slot.{readSlot}
 use Rattle.entry.proofs.Entries.{accepted}
 use Rattle.fields.specs.Bytes.{byteAt}
-use Rattle.fields.specs.Little.{field}
+use Rattle.fields.specs.Little.{joined, span, field}
 use Rattle.image.specs.Encode.{entrySize, encode}
 use Rattle.machine.specs.Cycle.{cycled}
 use Rattle.machine.specs.declared.event.Event.the-variants.{Nothing}
@@ -29,10 +31,12 @@ use Rattle.ranges.specs.Tests.{all}
 use Rattle.ranges.proofs.Tests.{Every, every}
 use Rattle.registers.specs.declared.pads.AutoJoypad.the-variants as auto
 use Rattle.state.specs.declared.Machine.{Machine}
+use Rattle.transfer.specs.Bits.{flagOf, down}
+use Rattle.transfer.specs.Pattern.{offsetOf, bAddress}
 use Rattle.wram.specs.Olds.{noOld, noOlds}
 use Rattle.wram.specs.declared.Olds.{Olds}
 use Rattle.player_abi.specs.Bytes.{broken, machineOf, benchOf}
-use Rattle.player_abi.specs.Way.{clockAt, pressedTests, calmTests, turnOf, kindOf, slotAt, keptAt, lengthAt, lentTests, plainTests, wayOf}
+use Rattle.player_abi.specs.Way.{waitAt, clockAt, lineAt, pressedTests, calmTests, waitingAt, baseAt, dmapAt, a1tAt, a1bAt, dasAt, portAt, memory, dueTests, tripTests, turnOf, kindOf, slotAt, keptAt, lengthAt, lentTests, plainTests, wayOf}
 
 -- ---- tests
 
@@ -45,14 +49,89 @@ given : (a : Bool) (x n : ℕ) → 0 < n → pick a x 0 ≡ n → x ≡ n
 given true x n h q = q
 given false x n h q = absurd (omega (arith, h, q))
 
--- of the turns, waiting is 1 and a byte moved 2
-abbrev pub turnBy : Bool → Bool → ℕ
-turnBy w t = pick w 1 (pick t 2 0)
+-- of the turns waiting is 1, and a byte moved 2
+abbrev pub turn : Bool → Bool → ℕ
+turn w t = pick w 1 (pick t 2 0)
 
 -- every byte that an index reaches is one
 pub all-bytes : (l : List ℕ) → ((k : ℕ) → k < length l → getD l k 0 < 256) → Bytes l
 all-bytes [] h = tt {0}
 all-bytes (x ∷ l) h = (h 0 (omega arith), all-bytes l (λ k q. h (suc k) (omega (arith, q))))
+
+-- ---- the image at the head of the bytes
+
+module _ (s : List ℕ) (long : length s ≡ 280) where
+  abbrev x : List ℕ
+  x = readSlot entrySize 0 s
+
+  head : x ≡ take 256 s
+  unfolding readSlot
+  head = rw long refl
+
+  pub whole : x ++ drop 256 s ≡ s
+  whole = ap (λ (l : List ℕ). l ++ drop 256 s) head ∙ take-append-drop 256 s
+
+  pub place : (k : ℕ) → k < 256 → byteAt s k ≡ byteAt x k
+  place k h = sym (ap (λ (l : List ℕ). getD l k 0) head ∙ getD-take 256 s k 0 h)
+
+  places : (n k : ℕ) → k + n ≤ 256 → span n s k ≡ span n x k
+  places zero k h = refl
+  places (suc n) k h = λ i. place k (omega (arith, h)) i ∷ places n (k + 1) (omega (arith, h)) i
+
+  number : (n k : ℕ) → k + n ≤ 256 → field n s k ≡ field n x k
+  number n k h = ap joined (places n k h)
+
+  -- what the tests read
+  pub wait-same : waitAt s ≡ waitAt x
+  wait-same = number 4 67 (omega arith)
+
+  pub clock-same : clockAt s ≡ clockAt x
+  clock-same = number 8 214 (omega arith)
+
+  pub line-same : lineAt s ≡ lineAt x
+  line-same = λ i. not (eqb (bitAnd (place 4 (omega arith) i) 0x80) 0) && not (eqb (bitAnd (place 22 (omega arith) i) 0x80) 0)
+
+  calm-same : calmTests s ≡ calmTests x
+  calm-same =
+      let one = number 2 52 (omega arith) in
+      let two = number 2 54 (omega arith) in
+      λ i.
+      eqb (place 34 (omega arith) i) 0
+      ∷ all (eqb (bitAnd (one i) (65535 - 15)) (number 2 42 (omega arith) i) ∷ eqb (bitAnd (two i) (65535 - 15)) (number 2 48 (omega arith) i) ∷ [])
+      ∷ (eqb (place 60 (omega arith) i) 1 || eqb (place 15 (omega arith) i) 0)
+      ∷ eqb (place 222 (omega arith) i) 0
+      ∷ not (eqb (clock-same i) 18446744073709551615)
+      ∷ []
+
+  base-same : baseAt s ≡ baseAt x
+  base-same = ap (λ (n : ℕ). 98 + 12 * (n % 8)) (place 62 (omega arith))
+
+  dmap-same : dmapAt s ≡ dmapAt x
+  dmap-same = place (baseAt s) (omega arith) ∙ ap (byteAt x) base-same
+
+  a1t-same : a1tAt s ≡ a1tAt x
+  a1t-same = number 2 (baseAt s + 2) (omega arith) ∙ ap (λ (n : ℕ). field 2 x (n + 2)) base-same
+
+  a1b-same : a1bAt s ≡ a1bAt x
+  a1b-same = place (baseAt s + 4) (omega arith) ∙ ap (λ (n : ℕ). byteAt x (n + 4)) base-same
+
+  das-same : dasAt s ≡ dasAt x
+  das-same = number 2 (baseAt s + 5) (omega arith) ∙ ap (λ (n : ℕ). field 2 x (n + 5)) base-same
+
+  port-same : portAt s ≡ portAt x
+  port-same =
+      let bbad = place (baseAt s + 1) (omega arith) ∙ ap (λ (n : ℕ). byteAt x (n + 1)) base-same in
+      λ i. bAddress (bbad i) (offsetOf (dmap-same i) (number 4 63 (omega arith) i))
+
+  turn-same : turnOf s ≡ turnOf x
+  unfolding turnOf
+  turn-same =
+      let waits : waitingAt s ≡ waitingAt x = λ i. ltb 0 (wait-same i) || (eqb (place 71 (omega arith) i) 0 && eqb (place 59 (omega arith) i) 0) in
+      let due : all (dueTests s) ≡ all (dueTests x) = λ i.
+      all (eqb (wait-same i) 0 ∷ eqb (place 71 (omega arith) i) 0 ∷ eqb (place 59 (omega arith) i) 2 ∷ eqb (place 61 (omega arith) i) 1 ∷ not (eqb (down 65536 (das-same i)) 0) ∷ []) in
+      let trip : all (tripTests s) ≡ all (tripTests x) = λ i.
+      all (memory (routeOf (a1b-same i) (a1t-same i)) ∷ (flagOf (dmap-same i) 0x80 || not (leb 0x2181 (port-same i) && ltb (port-same i) 0x2184)) ∷ []) in
+      λ i. turn (waits i) (due i && trip i)
 
 -- ---- the machine
 
@@ -158,15 +237,17 @@ goes s low high room rom event line timer n pos q =
     let e = readSlot entrySize 0 s in
     let p = all (plainTests event line timer) in
     let r = all (lentTests low high room rom (lengthAt s) (slotAt s) (keptAt s)) in
-    let inner = pick (p && r) (kindOf e) 0 in
-    let tests = and-eq-true-iff p r .0 (picked (p && r) (kindOf e) n pos (given (eqb (length s) 280) inner n pos q)) in
-    let kind = given (p && r) (kindOf e) n pos (given (eqb (length s) 280) inner n pos q) in
-    let sound = given (all (calmTests e)) (pick (entryOk e) (turnOf e) 0) n pos kind in
+    let inner = pick (p && r) (kindOf s) 0 in
+    let long = eqb-true (length s) 280 (picked (eqb (length s) 280) inner n pos q) in
+    let tests = and-eq-true-iff p r .0 (picked (p && r) (kindOf s) n pos (given (eqb (length s) 280) inner n pos q)) in
+    let kind = given (p && r) (kindOf s) n pos (given (eqb (length s) 280) inner n pos q) in
+    let calm = picked (all (calmTests s)) (pick (entryOk e) (turnOf s) 0) n pos kind in
+    let sound = given (all (calmTests s)) (pick (entryOk e) (turnOf s) 0) n pos kind in
     record {
-      long = eqb-true (length s) 280 (picked (eqb (length s) 280) inner n pos q);
+      long = long;
       plain = every (plainTests event line timer) (tests .0);
       lent = every (lentTests low high room rom (lengthAt s) (slotAt s) (keptAt s)) (tests .1);
-      calm = every (calmTests e) (picked (all (calmTests e)) (pick (entryOk e) (turnOf e) 0) n pos kind);
-      ok = picked (entryOk e) (turnOf e) n pos sound;
-      turn = given (entryOk e) (turnOf e) n pos sound;
+      calm = every (calmTests e) (sym (ap all (calm-same s long)) ∙ calm);
+      ok = picked (entryOk e) (turnOf s) n pos sound;
+      turn = sym (turn-same s long) ∙ given (entryOk e) (turnOf s) n pos sound;
     }

@@ -26,7 +26,7 @@ use Rattle.dma.specs.General.{afterByte, onBanks}
 use Rattle.entry.specs.Entry.{written}
 use Rattle.entry.specs.Slot.{readSlot, writeSlot}
 use Rattle.fields.specs.Bytes.{byteAt}
-use Rattle.fields.specs.Little.{le, span, field}
+use Rattle.fields.specs.Little.{le, span}
 use Rattle.fields.specs.Patch.{patched}
 use Rattle.hdma.specs.Engine.{withWait, withProgress}
 use Rattle.hdma.specs.declared.engine.DmaCore.{DmaCore}
@@ -60,8 +60,8 @@ use Rattle.player_abi.specs.Bytes.{benchOf, stored, saved}
 use Rattle.player_abi.specs.Carry.{wmaddBytes, a1tNext, movedLog, portByte, placeFor, byteBy, byteFrom, wmaddNext, writtenNext, afterMove, carrying, carried}
 use Rattle.player_abi.specs.Crossed.{crossed, answered, cycleCrossed}
 use Rattle.player_abi.specs.Rest.{counting, edgeAt}
-use Rattle.player_abi.specs.Way.{waitAt, clockAt, lineAt, calmTests, waitingAt, baseAt, dmapAt, a1tAt, a1bAt, dasAt, portAt, tripAt, memory, dueTests, tripTests, turnOf, slotAt, keptAt as countAt, lengthAt, wayOf}
-use Rattle.player_abi.proofs.BytesLaws.{turnBy, b, bytes-are, idle, one, two, runs, call-is, goes}
+use Rattle.player_abi.specs.Way.{waitAt, clockAt, lineAt, calmTests, waitingAt, baseAt, unitAt, dmapAt, a1tAt, a1bAt, dasAt, portAt, tripAt, memory, dueTests, tripTests, turnOf, slotAt, keptAt as countAt, lengthAt, wayOf}
+use Rattle.player_abi.proofs.BytesLaws.{turn, b, bytes-are, idle, one, two, runs, call-is, goes}
 use Rattle.player_abi.proofs.MoveLaws.{silent, port-route, port-silent, nextWm, movedIo, readOf, leaves, plain-move, channel-moves, moves}
 use Rattle.player_abi.proofs.QuietLaws.{unit-cycle}
 
@@ -201,7 +201,7 @@ module _ (s : List ℕ) (fit : Bytes s) (ok : entryOk (readSlot entrySize 0 s) �
   abbrev m : Machine
   m = machineAt e
 
-  -- the channel, its place among the eight, and the unit
+  -- the channel, and its place among the eight
   abbrev ch : ℕ
   ch = byteAt e 62
 
@@ -209,7 +209,7 @@ module _ (s : List ℕ) (fit : Bytes s) (ok : entryOk (readSlot entrySize 0 s) �
   nth = ch % 8
 
   abbrev unit : ℕ
-  unit = field 4 e 63
+  unit = unitAt e
 
   abbrev next : ℕ
   next = (unit + 1) % 2 ^ 32
@@ -326,10 +326,10 @@ module _ (s : List ℕ) (fit : Bytes s) (ok : entryOk (readSlot entrySize 0 s) �
         ∙ (λ i. onBanks bus (channel-moves (bus .core) ch eight (m .dma) unit das-is i))
 
     -- the whole cycle
-    abbrev turn : Turned
-    turn = turned (holding (onBanks bus unitLeft)) m (nmiLine (m .io))
+    abbrev over : Turned
+    over = turned (holding (onBanks bus unitLeft)) m (nmiLine (m .io))
 
-    ends : cycled rom m l h Nothing false false ≡ turn
+    ends : cycled rom m l h Nothing false false ≡ over
     ends =
         unit-cycle rom m l h (idle s fit ok calm) (one s fit ok calm) (two s fit ok calm) (runs s fit ok calm)
         ∙ ap (λ (x : Held). turned x m (nmiLine (m .io)))
@@ -337,7 +337,7 @@ module _ (s : List ℕ) (fit : Bytes s) (ok : entryOk (readSlot entrySize 0 s) �
 
     module _ (en out : List ℕ) where
       crossed-is : crossed 0 (carried rom s l h en out .machine) (carried rom s l h en out .low) (carried rom s l h en out .high) (carried rom s l h en out .entries) (carried rom s l h en out .out)
-          ≡ cycleCrossed s out (cycleDone (desk (b s fit ok calm) l h en) turn)
+          ≡ cycleCrossed s out (cycleDone (desk (b s fit ok calm) l h en) over)
       unfolding carried placeFor saved stored counting noted written withChannel machineAt boardAt ioAt
       crossed-is =
           let place = placeFor e (trip .target .bank) (trip .target .addr) in
@@ -352,7 +352,7 @@ module _ (s : List ℕ) (fit : Bytes s) (ok : entryOk (readSlot entrySize 0 s) �
           let ram = poked (banks l h) place v in
           crossed 0 (laidOver (image-is v i)) (ram .low) (ram .high) (writeSlot entrySize (slotAt s) (encode m olds) en) (answered true (edgeAt e) (movedLog trip v) out))
 
-moves-two : (w t : Bool) → turnBy w t ≡ 2 → t ≡ true
+moves-two : (w t : Bool) → turn w t ≡ 2 → t ≡ true
 moves-two true t q = absurd (omega (arith, q))
 moves-two false true q = refl
 moves-two false false q = absurd (omega (arith, q))

@@ -34,16 +34,12 @@ pub quiet-by : (out : List ℕ) (held edge : Bool) {a b : List ℕ} → a ≡ pa
 unfolding answered
 quiet-by out held edge p q = q ∙ (λ i. patched (p i) 3 (replicate 55 0))
 
-pub rested-by : (s en out : List ℕ) {slot kept room wait clock : ℕ} {nmi : Bool} {e a b c d : List ℕ} → e ≡ readSlot entrySize 0 s → slot ≡ slotAt s
-    → kept ≡ keptAt s → room ≡ lengthAt s → wait ≡ waitAt e → clock ≡ clockAt e → nmi ≡ lineAt e
+pub rested-by : (s en out : List ℕ) {slot kept room wait clock was : ℕ} {nmi : Bool} {e a b c d : List ℕ} → e ≡ readSlot entrySize 0 s → slot ≡ slotAt s
+    → kept ≡ keptAt s → room ≡ lengthAt s → wait ≡ waitAt s → clock ≡ clockAt s → nmi ≡ lineAt s → was ≡ byteAt s 56
     → a ≡ writeSlot entrySize slot e en → b ≡ ticking s nmi wait clock → c ≡ counting b slot kept room
-    → d ≡ answered (ltb 0 wait) (nmi && not (eqb (byteAt e 56) 1)) noLog out → resting c a d ≡ rested s en out
+    → d ≡ answered (ltb 0 wait) (nmi && not (eqb was 1)) noLog out → resting c a d ≡ rested s en out
 unfolding rested
-rested-by s en out x p q r t u v w y z o =
-    let wait = t ∙ ap waitAt x in
-    let clock = u ∙ ap clockAt x in
-    let nmi = v ∙ ap lineAt x in
+rested-by s en out x p q r t u v o w y z k =
     λ i.
-    resting ((z ∙ (λ j. counting ((y ∙ (λ k. ticking s (nmi k) (wait k) (clock k))) j) (p j) (q j) (r j))) i)
-    ((w ∙ (λ j. writeSlot entrySize (p j) (x j) en)) i)
-    ((o ∙ (λ j. answered (ltb 0 (wait j)) (nmi j && not (eqb (byteAt (x j) 56) 1)) noLog out)) i)
+    resting ((z ∙ (λ j. counting ((y ∙ (λ n. ticking s (v n) (t n) (u n))) j) (p j) (q j) (r j))) i) ((w ∙ (λ j. writeSlot entrySize (p j) (x j) en)) i)
+    ((k ∙ (λ j. answered (ltb 0 (t j)) (v j && not (eqb (o j) 1)) noLog out)) i)

@@ -1,12 +1,12 @@
 -- A cycle that waits, made on the machine's bytes where they stand, is the cycle's own definition.
 use Prim.Native.Nat.{ℕ, _+_, _-_, _/_, _%_, _^_, _≤_, min}
-use mathlib.Core.Bool.{Bool, true, false, _&&_, _||_, and-eq-true-iff}
+use mathlib.Core.Bool.{Bool, true, false, not, _&&_, _||_, and-eq-true-iff}
 use mathlib.Core.List.{List, _++_, append-assoc}
 use mathlib.Core.Path.{_≡_, refl, sym, ap, _∙_}
 use native.Mathlib.Omega.{arith}
 use borrow.Author.Tests.{eqb-true, le-leb}
 use lib.Dec.{eqb, ltb}
-use lib.ListN.{length, take, drop, length-append, take-append-drop}
+use lib.ListN.{length, take, drop, length-append}
 use lib.Seq.{take-append-le, drop-append-le}
 use Rattle.common.specs.Pick.{pick}
 use Rattle.common.specs.Width.{Bytes}
@@ -34,7 +34,7 @@ use Rattle.player_abi.specs.Bytes.{benchOf, stored, saved}
 use Rattle.player_abi.specs.Crossed.{crossed, answered, cycleCrossed}
 use Rattle.player_abi.specs.Rest.{ticking, counting, edgeAt, resting, rested}
 use Rattle.player_abi.specs.Way.{waitAt, clockAt, lineAt, calmTests, waitingAt, dueTests, tripTests, turnOf, slotAt, keptAt, lengthAt, wayOf}
-use Rattle.player_abi.proofs.BytesLaws.{turnBy, e, m, b, bytes-are, idle, one, two, runs, call-is, goes}
+use Rattle.player_abi.proofs.BytesLaws.{turn, whole, place, wait-same, clock-same, line-same, e, m, b, bytes-are, idle, one, two, runs, call-is, goes}
 use Rattle.player_abi.proofs.QuietLaws.{left, quiet-cycle}
 use Rattle.ranges.specs.Tests.{all}
 use Rattle.ranges.proofs.Tests.{Every}
@@ -84,18 +84,11 @@ tick-head m o r nmi wait clock =
     let three : patched (encode m2 o ++ r) 214 (le 8 c) ≡ encode (next m nmi w c) o ++ r = head-laid (encode m2 o) r (le 8 c) 214 (rw (entry-size m2 o) (omega arith)) ∙ ap (λ (l : List ℕ). l ++ r) (tick-third m2 o c) in
     ap (λ (l : List ℕ). patched (patched l 67 (le 4 w)) 214 (le 8 c)) one ∙ ap (λ (l : List ℕ). patched l 214 (le 8 c)) two ∙ three
 
--- ---- the machine's bytes
+write-head : (s : List ℕ) → length s ≡ 280 → (x : List ℕ) → writeSlot entrySize 0 x s ≡ x ++ drop 256 s
+unfolding writeSlot
+write-head s long x = rw long refl
 
-module _ (s : List ℕ) (long : length s ≡ 280) where
-  whole : readSlot entrySize 0 s ++ drop 256 s ≡ s
-  unfolding readSlot
-  whole = rw long (take-append-drop 256 s)
-
-  write-head : (x : List ℕ) → writeSlot entrySize 0 x s ≡ x ++ drop 256 s
-  unfolding writeSlot
-  write-head x = rw long refl
-
-waits-one : (w t : Bool) → turnBy w t ≡ 1 → w ≡ true
+waits-one : (w t : Bool) → turn w t ≡ 1 → w ≡ true
 waits-one true t q = refl
 waits-one false true q = absurd (omega (arith, q))
 waits-one false false q = absurd (omega (arith, q))
@@ -119,9 +112,9 @@ module _ (s : List ℕ) (long : length s ≡ 280) (fit : Bytes s) (ok : entryOk 
       let x = e s fit ok calm in
       let none = eqb (byteAt x 71) 0 in
       let still = eqb (byteAt x 59) 0 in
-      let tests = and-eq-true-iff none still .0 ((λ i. sym h i || (none && still)) ∙ waits) in (
-        ap (λ (n : ℕ). eqb n 1) (eqb-true (byteAt x 71) 0 (tests .0)),
-        λ i. pick (tests .1 i) state.Idle (pick (eqb (byteAt x 59) 1) state.Startup (pick (eqb (byteAt x 59) 2) state.Dma state.Hdma)),
+      let both = and-eq-true-iff none still .0 ((λ i. sym h i || (none && still)) ∙ waits) in (
+        ap (λ (n : ℕ). eqb n 1) (eqb-true (byteAt x 71) 0 (both .0)),
+        λ i. pick (both .1 i) state.Idle (pick (eqb (byteAt x 59) 1) state.Startup (pick (eqb (byteAt x 59) 2) state.Dma state.Hdma)),
       )
 
   module _ (rom l h en out : List ℕ) where
@@ -134,9 +127,15 @@ module _ (s : List ℕ) (long : length s ≡ 280) (fit : Bytes s) (ok : entryOk 
     crossed-is : crossed 0 (rested s en out .machine) l h (rested s en out .entries) (rested s en out .out)
         ≡ cycleCrossed s out (cycleDone (desk (b s fit ok calm) l h en) t)
     unfolding rested saved noted written opened machineAt boardAt ioAt dmaAt
-    crossed-is = λ i.
-        crossed 0 (sym (stored-is (lineAt (e s fit ok calm)) (waitAt (e s fit ok calm)) (clockAt (e s fit ok calm)) (slotAt s) (keptAt s) (lengthAt s)) i) l h
-        (writeSlot entrySize (slotAt s) (sym (bytes-are s fit ok calm) i) en) (answered (ltb 0 (waitAt (e s fit ok calm))) (edgeAt (e s fit ok calm)) noLog out)
+    crossed-is =
+        let x = e s fit ok calm in
+        (λ i.
+        crossed 0 (counting (ticking s (line-same s long i) (wait-same s long i) (clock-same s long i)) (slotAt s) (keptAt s) (lengthAt s)) l h
+        (writeSlot entrySize (slotAt s) (sym (bytes-are s fit ok calm) i) en)
+        (answered (ltb 0 (wait-same s long i)) (line-same s long i && not (eqb (place s long 56 (omega arith) i) 1)) noLog out))
+        ∙ (λ i.
+        crossed 0 (sym (stored-is (lineAt x) (waitAt x) (clockAt x) (slotAt s) (keptAt s) (lengthAt s)) i) l h
+        (writeSlot entrySize (slotAt s) (encode (m s fit ok calm) noOlds) en) (answered (ltb 0 (waitAt x)) (edgeAt x) noLog out))
 
 -- ---- the law
 

@@ -15,7 +15,7 @@ use Rattle.cartridge.specs.Cartridge.{romByte}
 use Rattle.decode.specs.Decode.{wmaddAt}
 use Rattle.entry.specs.Slot.{readSlot, writeSlot}
 use Rattle.fields.specs.Bytes.{byteAt}
-use Rattle.fields.specs.Little.{le, span, field}
+use Rattle.fields.specs.Little.{le, span}
 use Rattle.fields.specs.Patch.{patched}
 use Rattle.image.specs.Encode.{entrySize, encOlds}
 use Rattle.image.specs.Groups.{byte, flag, bankByte}
@@ -28,7 +28,7 @@ use Rattle.wram.specs.Olds.{noOlds, keptAt}
 use Rattle.wram.specs.declared.Place.{Place}
 use Rattle.player_abi.specs.Crossed.{answered}
 use Rattle.player_abi.specs.Rest.{counting, edgeAt}
-use Rattle.player_abi.specs.Way.{clockAt, lineAt, baseAt, dmapAt, a1tAt, dasAt, portAt, tripAt, slotAt, keptAt as countAt, lengthAt}
+use Rattle.player_abi.specs.Way.{clockAt, lineAt, baseAt, unitAt, dmapAt, a1tAt, dasAt, portAt, tripAt, slotAt, keptAt as countAt, lengthAt}
 
 -- bank and address of WMADD
 abbrev pub wmaddBytes : WmAddress → List ℕ
@@ -79,7 +79,7 @@ module _ (e : List ℕ) where
   unfoldable pub afterMove : ℕ → List ℕ
   afterMove v =
       let registers = patched (patched e 0 (wmaddBytes wmaddNext)) 25 (byte v) in
-      let unit = patched (patched (patched registers 56 (flag (lineAt e))) 63 (le 4 ((field 4 e 63 + 1) % 2 ^ 32))) 67 (le 4 7) in
+      let unit = patched (patched (patched registers 56 (flag (lineAt e))) 63 (le 4 ((unitAt e + 1) % 2 ^ 32))) 67 (le 4 7) in
       let channel = patched (patched unit (baseAt e + 2) (le 2 (a1tNext (dmapAt e) (a1tAt e)))) (baseAt e + 5) (le 2 (down 65536 (dasAt e))) in
       patched (patched channel 210 (writtenNext v)) 214 (le 8 ((clockAt e + 1) % 2 ^ 64))
 

@@ -37,8 +37,7 @@ pub record Rested : Type 0 where
 abbrev pub resting : List ℕ → List ℕ → List ℕ → Rested
 resting m e o = record { machine = m; entries = e; out = o }
 
-unfoldable pub rested : List ℕ → List ℕ → List ℕ → Rested
+unfoldable pub rested : (s en out : List ℕ) → Rested
 rested s en out =
-    let e = readSlot entrySize 0 s in
-    resting (counting (ticking s (lineAt e) (waitAt e) (clockAt e)) (slotAt s) (keptAt s) (lengthAt s)) (writeSlot entrySize (slotAt s) e en)
-    (answered (ltb 0 (waitAt e)) (edgeAt e) noLog out)
+    resting (counting (ticking s (lineAt s) (waitAt s) (clockAt s)) (slotAt s) (keptAt s) (lengthAt s))
+    (writeSlot entrySize (slotAt s) (readSlot entrySize 0 s) en) (answered (ltb 0 (waitAt s)) (edgeAt s) noLog out)

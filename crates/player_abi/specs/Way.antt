@@ -31,55 +31,58 @@ memory Data = false
 memory Registers = false
 memory Cartridge = true
 
-module _ (e : List ℕ) where
+module _ (s : List ℕ) where
   -- the wait, the clock and the NMI line
   abbrev pub waitAt : ℕ
-  waitAt = field 4 e 67
+  waitAt = field 4 s 67
 
   abbrev pub clockAt : ℕ
-  clockAt = field 8 e 214
+  clockAt = field 8 s 214
 
   abbrev pub lineAt : Bool
-  lineAt = not (eqb (bitAnd (byteAt e 4) 0x80) 0) && not (eqb (bitAnd (byteAt e 22) 0x80) 0)
+  lineAt = not (eqb (bitAnd (byteAt s 4) 0x80) 0) && not (eqb (bitAnd (byteAt s 22) 0x80) 0)
 
   -- both ports' buttons are those of the pad words
   abbrev pub pressedTests : List Bool
   pressedTests =
-      eqb (bitAnd (field 2 e 52) (65535 - 15)) (field 2 e 42) ∷ eqb (bitAnd (field 2 e 54) (65535 - 15)) (field 2 e 48) ∷ []
+      eqb (bitAnd (field 2 s 52) (65535 - 15)) (field 2 s 42) ∷ eqb (bitAnd (field 2 s 54) (65535 - 15)) (field 2 s 48) ∷ []
 
   -- no automatic read; no new button; no general transfer to start; no old byte; the clock not at its end
   abbrev pub calmTests : List Bool
   calmTests =
-      eqb (byteAt e 34) 0
+      eqb (byteAt s 34) 0
       ∷ all pressedTests
-      ∷ (eqb (byteAt e 60) 1 || eqb (byteAt e 15) 0)
-      ∷ eqb (byteAt e 222) 0
+      ∷ (eqb (byteAt s 60) 1 || eqb (byteAt s 15) 0)
+      ∷ eqb (byteAt s 222) 0
       ∷ not (eqb clockAt 18446744073709551615)
       ∷ []
 
   -- a wait; or the unit is idle and no pass pending
   abbrev pub waitingAt : Bool
-  waitingAt = ltb 0 waitAt || (eqb (byteAt e 71) 0 && eqb (byteAt e 59) 0)
+  waitingAt = ltb 0 waitAt || (eqb (byteAt s 71) 0 && eqb (byteAt s 59) 0)
 
-  -- the channel in progress: where its registers stand, and DMAP, A1T, its bank and DAS there
+  -- the channel in progress: where its registers stand; the place in its units; DMAP, A1T, its bank and DAS
   abbrev pub baseAt : ℕ
-  baseAt = 98 + 12 * (byteAt e 62 % 8)
+  baseAt = 98 + 12 * (byteAt s 62 % 8)
 
   abbrev pub dmapAt : ℕ
-  dmapAt = byteAt e baseAt
+  dmapAt = byteAt s baseAt
+
+  abbrev pub unitAt : ℕ
+  unitAt = field 4 s 63
 
   abbrev pub a1tAt : ℕ
-  a1tAt = field 2 e (baseAt + 2)
+  a1tAt = field 2 s (baseAt + 2)
 
   abbrev pub a1bAt : ℕ
-  a1bAt = byteAt e (baseAt + 4)
+  a1bAt = byteAt s (baseAt + 4)
 
   abbrev pub dasAt : ℕ
-  dasAt = field 2 e (baseAt + 5)
+  dasAt = field 2 s (baseAt + 5)
 
   -- the port on the B side, and where the byte comes from and goes to
   abbrev pub portAt : ℕ
-  portAt = bAddress (byteAt e (baseAt + 1)) (offsetOf dmapAt (field 4 e 63))
+  portAt = bAddress (byteAt s (baseAt + 1)) (offsetOf dmapAt unitAt)
 
   abbrev pub tripAt : Trip
   tripAt = tripOf dmapAt a1bAt a1tAt portAt
@@ -88,9 +91,9 @@ module _ (e : List ℕ) where
   abbrev pub dueTests : List Bool
   dueTests =
       eqb waitAt 0
-      ∷ eqb (byteAt e 71) 0
-      ∷ eqb (byteAt e 59) 2
-      ∷ eqb (byteAt e 61) 1
+      ∷ eqb (byteAt s 71) 0
+      ∷ eqb (byteAt s 59) 2
+      ∷ eqb (byteAt s 61) 1
       ∷ not (eqb (down 65536 dasAt) 0)
       ∷ []
 
@@ -104,7 +107,7 @@ module _ (e : List ℕ) where
 
   -- and that only of an image in the ranges
   unfoldable pub kindOf : ℕ
-  kindOf = pick (all calmTests) (pick (entryOk e) turnOf 0) 0
+  kindOf = pick (all calmTests) (pick (entryOk (readSlot entrySize 0 s)) turnOf 0) 0
 
 -- the record's counts
 abbrev pub slotAt : List ℕ → ℕ
@@ -135,4 +138,4 @@ unfoldable pub wayOf : List ℕ → (low high room rom event : ℕ) → Bool →
 wayOf s low high room rom event line timer =
     pick (eqb (length s) 280)
     (pick (all (plainTests event line timer) && all (lentTests low high room rom (lengthAt s) (slotAt s) (keptAt s)))
-    (kindOf (readSlot entrySize 0 s)) 0) 0
+    (kindOf s) 0) 0

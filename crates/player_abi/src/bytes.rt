@@ -11,6 +11,7 @@ use benchfile::word::byte;
 use entry::Entry;
 use entry::read_entry;
 use entry::write_entry;
+use fields::eight_bytes;
 use fields::join8;
 use fields::put;
 use state::Machine;
@@ -91,25 +92,10 @@ pub fn bench_of(s: &[u8]) -> Bench
     }
 }
 
-fn eight_bytes(n: usize) -> [u8; 8]
-    ensures { λ r. ⌜ r ≡ le 8 n ⌝ }
-{
-    [
-        (n % 256) as u8,
-        (n / 256 % 256) as u8,
-        (n / 256 / 256 % 256) as u8,
-        (n / 256 / 256 / 256 % 256) as u8,
-        (n / 256 / 256 / 256 / 256 % 256) as u8,
-        (n / 256 / 256 / 256 / 256 / 256 % 256) as u8,
-        (n / 256 / 256 / 256 / 256 / 256 / 256 % 256) as u8,
-        (n / 256 / 256 / 256 / 256 / 256 / 256 / 256 % 256) as u8,
-    ]
-}
-
 pub fn put_eight(s: &mut [u8], at: usize, n: usize)
     ensures { λ _. ⌜ now (s .exit) ≡ patched (now (s .entry)) at (le 8 n) ⌝ }
 {
-    let b = eight_bytes(n);
+    let b = eight_bytes(n as u64);
     put(s, at, &b);
 }
 

@@ -1,6 +1,6 @@
 // The exported functions. Each reads the machine from its bytes, makes the call, and writes the machine back where it was accepted.
 ghost use mathlib.Core.Path.{_≡_};
-ghost use mathlib.Core.List.{[], _∷_};
+ghost use mathlib.Core.List.{[]};
 ghost use denote.Ref.{now};
 ghost use lib.ListN.{length};
 ghost use Rattle.bench.specs.Calls.{desk, freshCall, cycleCall, readCall, writeCall, padCall, plugCall, answerCall, backCall};

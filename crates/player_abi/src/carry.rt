@@ -3,7 +3,6 @@ ghost use mathlib.Core.Bool.{true};
 ghost use mathlib.Core.Path.{_≡_};
 ghost use denote.Ref.{now};
 ghost use Rattle.entry.specs.Slot.{writeSlot};
-ghost use Rattle.fields.specs.Little.{le};
 ghost use Rattle.fields.specs.Patch.{patched};
 ghost use Rattle.image.specs.Encode.{entrySize, encOlds};
 ghost use Rattle.image.specs.Groups.{bytes};
@@ -15,13 +14,13 @@ use crate::bytes::length_at;
 use crate::bytes::put_eight;
 use crate::bytes::slot_at;
 use crate::rest::count;
-use crate::rest::four_bytes;
 use crate::rest::put_slot;
 use crate::way::base_at;
 use crate::way::clock_at;
 use crate::way::line_at;
 use crate::way::port_at;
 use crate::way::trip_at;
+use crate::way::unit_at;
 use bus::access::Access;
 use bus::route::Route;
 use bus::route::place_of;
@@ -29,8 +28,9 @@ use bus::route::route_of;
 use decode::register_file::wmadd_at;
 use decode::register_file::word_at;
 use entry::slot_bytes;
-use fields::join4;
+use fields::four_bytes;
 use fields::put;
+use fields::two_bytes;
 use image::ENTRY_SIZE;
 use image::olds::olds_bytes;
 use image::register_file::bank_byte;
@@ -104,7 +104,7 @@ fn next_wmadd(e: [u8; ENTRY_SIZE]) -> WmAddress
     ensures { λ r. ⌜ r ≡ wmaddNext e ⌝ }
 {
     let wmadd = wmadd_at(e);
-    if port_at(e) == 0x2180 {
+    if port_at(&e) == 0x2180 {
         return inc(wmadd);
     }
     wmadd
@@ -131,19 +131,13 @@ fn next_a1t(dmap: u8, a1t: u16) -> u16
     inc16(a1t)
 }
 
-fn two_bytes(n: u16) -> [u8; 2]
-    ensures { λ r. ⌜ r ≡ le 2 n ⌝ }
-{
-    [(n % 256) as u8, (n / 256 % 256) as u8]
-}
-
 // The bytes last written to the APU.
 fn next_written(e: [u8; ENTRY_SIZE], byte: u8) -> [u8; 4]
     ensures { λ r. ⌜ r ≡ writtenNext e byte ⌝ }
 {
     let mut w = [e[210], e[211], e[212], e[213]];
-    let base = base_at(e);
-    let port = port_at(e);
+    let base = base_at(&e);
+    let port = port_at(&e);
     if !flag(e[base], 0x80) & (0x2140 <= port) & (port < 0x2180) {
         let i = (port % 4) as usize;
         w[i] = byte;
@@ -156,16 +150,18 @@ fn next_written(e: [u8; ENTRY_SIZE], byte: u8) -> [u8; 4]
 fn after_move(e: [u8; ENTRY_SIZE], byte: u8) -> [u8; ENTRY_SIZE]
     ensures { λ r. ⌜ r ≡ afterMove e byte ⌝ }
 {
-    let base = base_at(e);
+    let base = base_at(&e);
+    let nmi = line_at(&e);
+    let unit = std::num::wrapping_add_u32(unit_at(&e), 1);
+    let clock = std::num::wrapping_add_u64(clock_at(&e), 1);
     let mut x = e;
     let wmadd = next_wmadd(e);
     let w = wmadd_bytes(wmadd);
     put(&mut x, 0, &w);
     let open = [byte];
     put(&mut x, 25, &open);
-    let line = [line_at(e) as u8];
+    let line = [nmi as u8];
     put(&mut x, 56, &line);
-    let unit = std::num::wrapping_add_u32(join4(e[63], e[64], e[65], e[66]), 1);
     let steps = four_bytes(unit);
     put(&mut x, 63, &steps);
     let wait = four_bytes(7);
@@ -178,7 +174,6 @@ fn after_move(e: [u8; ENTRY_SIZE], byte: u8) -> [u8; ENTRY_SIZE]
     put(&mut x, base + 5, &das);
     let written = next_written(e, byte);
     put(&mut x, 210, &written);
-    let clock = std::num::wrapping_add_u64(clock_at(e), 1);
     put_eight(&mut x, 214, clock as usize);
     x
 }
@@ -207,6 +202,7 @@ fn put_moved(out: &mut [u8], edge: bool, trip: Trip, byte: u8)
     put(out, 3, &b);
 }
 
+// The record is written last, as in `rest`.
 pub fn carry(
     machine: &mut [u8],
     low: &mut [u8],
@@ -221,16 +217,16 @@ pub fn carry(
     let slot = slot_at(machine);
     let kept = kept_at(machine);
     let length = length_at(machine);
-    let trip = trip_at(e);
+    let trip = trip_at(&e);
+    let nmi = line_at(&e);
     let byte = fetch(e, low, high, rom, trip.source.bank, trip.source.addr);
     let place = place_for(e, trip.target.bank, trip.target.addr);
     let none = no_olds();
     let olds = keep_old(none, low, high, place);
-    poke(low, high, place, byte);
-    note(entries, slot as usize, e, olds);
     let after = after_move(e, byte);
     put_slot(machine, 0, after);
     count(machine, slot as usize, kept as usize, length as usize);
-    let nmi = line_at(e);
     put_moved(out, nmi & !(e[56] == 1), trip, byte);
+    poke(low, high, place, byte);
+    note(entries, slot as usize, e, olds);
 }

@@ -4,7 +4,6 @@ ghost use Prim.Native.Nat.{_-_};
 ghost use denote.Ref.{now};
 ghost use Rattle.bus.specs.Access.{noLog};
 ghost use Rattle.entry.specs.Slot.{writeSlot};
-ghost use Rattle.fields.specs.Little.{le};
 ghost use Rattle.image.specs.Encode.{entrySize};
 ghost use Rattle.player_abi.specs.Crossed.{answered};
 ghost use Rattle.player_abi.specs.Rest.{ticking, counting, resting, rested};
@@ -17,7 +16,9 @@ use crate::way::line_at;
 use crate::way::wait_at;
 use bench::ring::more_kept;
 use bench::ring::slot_after;
+use benchfile::word::byte;
 use entry::slot_bytes;
+use fields::four_bytes;
 use fields::put;
 use image::ENTRY_SIZE;
 
@@ -39,17 +40,6 @@ fn less(wait: u32) -> u32
         return 0;
     }
     wait - 1
-}
-
-pub fn four_bytes(n: u32) -> [u8; 4]
-    ensures { λ r. ⌜ r ≡ le 4 n ⌝ }
-{
-    [
-        (n % 256) as u8,
-        (n / 256 % 256) as u8,
-        (n / 256 / 256 % 256) as u8,
-        (n / 256 / 256 / 256 % 256) as u8,
-    ]
 }
 
 fn tick(s: &mut [u8], nmi: bool, wait: u32, clock: u64)
@@ -91,11 +81,12 @@ pub fn rest(machine: &mut [u8], entries: &mut [u8], out: &mut [u8])
     let slot = slot_at(machine);
     let kept = kept_at(machine);
     let length = length_at(machine);
-    let wait = wait_at(e);
-    let clock = clock_at(e);
-    let nmi = line_at(e);
+    let wait = wait_at(machine);
+    let clock = clock_at(machine);
+    let nmi = line_at(machine);
+    let was = byte(machine, 56);
     put_slot(entries, slot as usize, e);
     tick(machine, nmi, wait, clock);
     count(machine, slot as usize, kept as usize, length as usize);
-    put_quiet(out, 0 < wait, nmi & !(e[56] == 1));
+    put_quiet(out, 0 < wait, nmi & !(was == 1));
 }

@@ -1,7 +1,10 @@
 // Which way a cycle goes, by the machine's bytes: most cycles are made on the bytes themselves.
 ghost use mathlib.Core.Path.{_≡_};
 ghost use denote.Ref.{now};
-ghost use Rattle.player_abi.specs.Way.{waitAt, clockAt, lineAt, pressedTests, calmTests, waitingAt, baseAt, portAt, tripAt, memory, dueTests, tripTests, turnOf, kindOf, plainTests, lentTests, wayOf};
+ghost use Rattle.entry.specs.Slot.{readSlot};
+ghost use Rattle.image.specs.Encode.{entrySize};
+ghost use Rattle.player_abi.specs.Way.{waitAt, clockAt, lineAt, pressedTests, calmTests, waitingAt, baseAt, unitAt, portAt, tripAt, memory, dueTests, tripTests, turnOf, kindOf, plainTests, lentTests, wayOf};
+ghost use Rattle.ranges.specs.Entry.{entryOk};
 ghost use Rattle.ranges.specs.Tests.{all};
 use crate::bytes::kept_at;
 use crate::bytes::length_at;
@@ -9,14 +12,13 @@ use crate::bytes::slot_at;
 use bench::refusal::banks_off;
 use bench::refusal::record_off;
 use bench::refusal::rom_off;
+use benchfile::word::byte;
+use benchfile::word::two;
 use bus::route::Route;
 use bus::route::route_of;
-use decode::register_file::word_at;
 use entry::slot_bytes;
-use fields::join2;
 use fields::join4;
 use fields::join8;
-use image::ENTRY_SIZE;
 use ranges::entry::entry_ok;
 use transfer::bits::dec16;
 use transfer::bits::flag;
@@ -25,88 +27,92 @@ use transfer::byte::trip_of;
 use transfer::pattern::b_address;
 use transfer::pattern::offset;
 
-pub fn wait_at(e: [u8; ENTRY_SIZE]) -> u32
-    ensures { λ r. ⌜ r ≡ waitAt e ⌝ }
+pub fn wait_at(s: &[u8]) -> u32
+    ensures { λ r. ⌜ r ≡ waitAt (now (s .entry)) ⌝ }
 {
-    join4(e[67], e[68], e[69], e[70])
+    join4(byte(s, 67), byte(s, 68), byte(s, 69), byte(s, 70))
 }
 
-pub fn clock_at(e: [u8; ENTRY_SIZE]) -> u64
-    ensures { λ r. ⌜ r ≡ clockAt e ⌝ }
+pub fn clock_at(s: &[u8]) -> u64
+    ensures { λ r. ⌜ r ≡ clockAt (now (s .entry)) ⌝ }
 {
     join8(
-        e[214],
-        e[215],
-        e[216],
-        e[217],
-        e[218],
-        e[219],
-        e[220],
-        e[221],
+        byte(s, 214),
+        byte(s, 215),
+        byte(s, 216),
+        byte(s, 217),
+        byte(s, 218),
+        byte(s, 219),
+        byte(s, 220),
+        byte(s, 221),
     )
 }
 
-pub fn line_at(e: [u8; ENTRY_SIZE]) -> bool
-    ensures { λ r. ⌜ r ≡ lineAt e ⌝ }
+pub fn line_at(s: &[u8]) -> bool
+    ensures { λ r. ⌜ r ≡ lineAt (now (s .entry)) ⌝ }
 {
-    (e[4] & 0x80 != 0) & (e[22] & 0x80 != 0)
+    (byte(s, 4) & 0x80 != 0) & (byte(s, 22) & 0x80 != 0)
 }
 
-fn pressed_at(e: [u8; ENTRY_SIZE]) -> bool
-    ensures { λ r. ⌜ r ≡ all (pressedTests e) ⌝ }
+fn pressed_at(s: &[u8]) -> bool
+    ensures { λ r. ⌜ r ≡ all (pressedTests (now (s .entry))) ⌝ }
 {
-    (join2(e[52], e[53]) & !0x000F == join2(e[42], e[43]))
-        & (join2(e[54], e[55]) & !0x000F == join2(e[48], e[49]))
+    (two(s, 52) & !0x000F == two(s, 42)) & (two(s, 54) & !0x000F == two(s, 48))
 }
 
-fn calm_at(e: [u8; ENTRY_SIZE]) -> bool
-    ensures { λ r. ⌜ r ≡ all (calmTests e) ⌝ }
+fn calm_at(s: &[u8]) -> bool
+    ensures { λ r. ⌜ r ≡ all (calmTests (now (s .entry))) ⌝ }
 {
-    (e[34] == 0)
-        & pressed_at(e)
-        & ((e[60] == 1) | (e[15] == 0))
-        & (e[222] == 0)
-        & (clock_at(e) != 18446744073709551615)
+    (byte(s, 34) == 0)
+        & pressed_at(s)
+        & ((byte(s, 60) == 1) | (byte(s, 15) == 0))
+        & (byte(s, 222) == 0)
+        & (clock_at(s) != 18446744073709551615)
 }
 
-fn waiting_at(e: [u8; ENTRY_SIZE]) -> bool
-    ensures { λ r. ⌜ r ≡ waitingAt e ⌝ }
+fn waiting_at(s: &[u8]) -> bool
+    ensures { λ r. ⌜ r ≡ waitingAt (now (s .entry)) ⌝ }
 {
-    (0 < wait_at(e)) | ((e[71] == 0) & (e[59] == 0))
+    (0 < wait_at(s)) | ((byte(s, 71) == 0) & (byte(s, 59) == 0))
 }
 
 // Where the registers of the channel in progress stand.
-pub fn base_at(e: [u8; ENTRY_SIZE]) -> usize
-    ensures { λ r. ⌜ r ≡ baseAt e ⌝ }
+pub fn base_at(s: &[u8]) -> usize
+    ensures { λ r. ⌜ r ≡ baseAt (now (s .entry)) ⌝ }
 {
-    98 + 12 * ((e[62] % 8) as usize)
+    98 + 12 * ((byte(s, 62) % 8) as usize)
+}
+
+pub fn unit_at(s: &[u8]) -> u32
+    ensures { λ r. ⌜ r ≡ unitAt (now (s .entry)) ⌝ }
+{
+    join4(byte(s, 63), byte(s, 64), byte(s, 65), byte(s, 66))
 }
 
 // The port of the B bus that the byte goes to or comes from.
-pub fn port_at(e: [u8; ENTRY_SIZE]) -> u16
-    ensures { λ r. ⌜ r ≡ portAt e ⌝ }
+pub fn port_at(s: &[u8]) -> u16
+    ensures { λ r. ⌜ r ≡ portAt (now (s .entry)) ⌝ }
 {
-    let base = base_at(e);
-    let unit = join4(e[63], e[64], e[65], e[66]);
-    let off = offset(e[base], unit);
-    b_address(e[base + 1], off)
+    let base = base_at(s);
+    let off = offset(byte(s, base), unit_at(s));
+    b_address(byte(s, base + 1), off)
 }
 
-pub fn trip_at(e: [u8; ENTRY_SIZE]) -> Trip
-    ensures { λ r. ⌜ r ≡ tripAt e ⌝ }
+pub fn trip_at(s: &[u8]) -> Trip
+    ensures { λ r. ⌜ r ≡ tripAt (now (s .entry)) ⌝ }
 {
-    let base = base_at(e);
-    let port = port_at(e);
-    trip_of(e[base], e[base + 4], word_at(e, base + 2), port)
+    let base = base_at(s);
+    let port = port_at(s);
+    trip_of(byte(s, base), byte(s, base + 4), two(s, base + 2), port)
 }
 
 // A general transfer moves a byte, and it is not the channel's last.
-fn due_at(e: [u8; ENTRY_SIZE]) -> bool
-    ensures { λ r. ⌜ r ≡ all (dueTests e) ⌝ }
+fn due_at(s: &[u8]) -> bool
+    ensures { λ r. ⌜ r ≡ all (dueTests (now (s .entry))) ⌝ }
 {
-    let base = base_at(e);
-    let left = dec16(word_at(e, base + 5));
-    (wait_at(e) == 0) & (e[71] == 0) & (e[59] == 2) & (e[61] == 1) & (left != 0)
+    let base = base_at(s);
+    let left = dec16(two(s, base + 5));
+    (wait_at(s) == 0) & (byte(s, 71) == 0) & (byte(s, 59) == 2) & (byte(s, 61) == 1) & (left != 0)
 }
 
 fn leads_to_memory(way: Route) -> bool
@@ -122,35 +128,43 @@ fn leads_to_memory(way: Route) -> bool
 }
 
 // Between memory and a port; WMADD's own ports are written elsewhere.
-fn plain_trip(e: [u8; ENTRY_SIZE]) -> bool
-    ensures { λ r. ⌜ r ≡ all (tripTests e) ⌝ }
+fn plain_trip(s: &[u8]) -> bool
+    ensures { λ r. ⌜ r ≡ all (tripTests (now (s .entry))) ⌝ }
 {
-    let base = base_at(e);
-    let port = port_at(e);
-    let way = route_of(e[base + 4], word_at(e, base + 2));
-    leads_to_memory(way) & (flag(e[base], 0x80) | !((0x2181 <= port) & (port < 0x2184)))
+    let base = base_at(s);
+    let port = port_at(s);
+    let way = route_of(byte(s, base + 4), two(s, base + 2));
+    leads_to_memory(way) & (flag(byte(s, base), 0x80) | !((0x2181 <= port) & (port < 0x2184)))
 }
 
-fn turn_of(e: [u8; ENTRY_SIZE]) -> u8
-    ensures { λ r. ⌜ r ≡ turnOf e ⌝ }
+fn turn_of(s: &[u8]) -> u8
+    ensures { λ r. ⌜ r ≡ turnOf (now (s .entry)) ⌝ }
 {
-    if waiting_at(e) {
+    if waiting_at(s) {
         return 1;
     }
-    if due_at(e) & plain_trip(e) {
+    if due_at(s) & plain_trip(s) {
         return 2;
     }
     0
 }
 
-// The ranges are tested last, since that takes longest.
-fn kind_of(e: [u8; ENTRY_SIZE]) -> u8
-    ensures { λ r. ⌜ r ≡ kindOf e ⌝ }
+fn image_ok(s: &[u8]) -> bool
+    ensures { λ r. ⌜ r ≡ entryOk (readSlot entrySize 0 (now (s .entry))) ⌝ }
 {
-    if calm_at(e) {
-        let kind = turn_of(e);
+    let e = slot_bytes(s, 0);
+    entry_ok(e)
+}
+
+// Bytes are read one by one: the call before wrote some of them, and a wide read would wait for that. The ranges are tested last, since
+// that takes longest.
+fn kind_of(s: &[u8]) -> u8
+    ensures { λ r. ⌜ r ≡ kindOf (now (s .entry)) ⌝ }
+{
+    if calm_at(s) {
+        let kind = turn_of(s);
         if kind != 0 {
-            if entry_ok(e) {
+            if image_ok(s) {
                 return kind;
             }
         }
@@ -202,8 +216,7 @@ pub fn way_of(
     let slot = slot_at(s);
     let kept = kept_at(s);
     if plain(event, line, timer) & lent_ok(low, high, room, rom, fresh, slot, kept) {
-        let e = slot_bytes(s, 0);
-        return kind_of(e);
+        return kind_of(s);
     }
     0
 }

@@ -79,8 +79,8 @@ slice-aggregate-put-12 c = search needs
 put-requires-6 : tie.Need-put-requires-6
 put-requires-6 c κs = search needs
 
-clock-bytes-requires : tie.Need-clock-bytes-requires
-clock-bytes-requires c κs = search needs
+eight-bytes-requires : tie.Need-eight-bytes-requires
+eight-bytes-requires c κs = search needs
 
 slice-aggregate-put-13 : tie.Need-slice-aggregate-put-13
 slice-aggregate-put-13 c = search needs
@@ -121,7 +121,7 @@ returns c =
     let w4 = on w3 (c4 .put4 .ensures) (c4 .before .before .before .lines-bytes .ensures) refl (omega arith) in
     let w5 = on w4 (c5 .put5 .ensures) (c5 .before .before .before .channels-bytes .ensures) refl (omega arith) in
     let w6 = on w5 (c6 .put6 .ensures) (c6 .before .before .before .answer-bytes .ensures) refl (omega arith) in
-    let w7 = on w6 (c7 .put7 .ensures) (c7 .before .before .before .clock-bytes .ensures) refl (omega arith) in
+    let w7 = on w6 (c7 .put7 .ensures) (c7 .before .before .before .eight-bytes .ensures) refl (omega arith) in
     let w8 = on w7 (c8 .put8 .ensures) (c8 .before .before .before .olds-bytes .ensures) refl (omega arith) in
     w8 .is
 
@@ -153,7 +153,7 @@ entry-bytes-spec =
     slice-aggregate-put-11
     slice-aggregate-put-12
     put-requires-6
-    clock-bytes-requires
+    eight-bytes-requires
     slice-aggregate-put-13
     slice-aggregate-put-14
     put-requires-7

@@ -6,95 +6,72 @@ use borrow.Author.Needs.{needs}
 use Rattle.player_abi.proofs.calls.cloverwain_cycle.Statement.{statement}
 use Rattle.player_abi.proofs.calls.cloverwain_cycle.Tie as tie
 
--- src/calls.rt:49:9
 way-of-requires : tie.Need-way-of-requires
 way-of-requires c κs = search needs
 
--- src/calls.rt:60:9
 rest-requires : tie.Need-rest-requires
 rest-requires c κs = search needs
 
--- src/calls.rt:61:9
 same-length : tie.Need-same-length
 same-length c = search needs
 
--- src/calls.rt:61:9
 same-length-2 : tie.Need-same-length-2
 same-length-2 c = search needs
 
--- src/calls.rt:61:9
 same-length-3 : tie.Need-same-length-3
 same-length-3 c = search needs
 
--- src/calls.rt:61:9
 returns : tie.Need-returns
 returns c = rest-crossed ((c .before .before .before .before .before .before .before .before .before .before .before .before .before .before .before .before .before .before .before .args .rom .now)) ((c .before .before .before .before .before .before .before .before .before .before .before .before .before .before .before .before .before .before .before .args .machine .now)) ((c .before .before .before .before .before .before .before .before .before .before .before .before .before .before .before .before .before .before .before .args .low .now)) ((c .before .before .before .before .before .before .before .before .before .before .before .before .before .before .before .before .before .before .before .args .high .now)) ((c .before .before .before .before .before .before .before .before .before .before .before .before .before .before .before .before .before .before .before .args .entries .now)) ((c .before .before .before .before .before .before .before .before .before .before .before .before .before .before .before .before .before .before .before .args .out .now)) _ _ _ (all-bytes ((c .before .before .before .before .before .before .before .before .before .before .before .before .before .before .before .before .before .before .before .args .machine .now)) (λ k h. (c .before .before .before .before .before .before .before .before .before .before .before .before .before .before .before .before .before .before .slice-known .given) k .fits)) ((c .before .before .before .before .before .before .before .before .before .before .before .way-of .ensures)) ((c .before .before .before .before .before .before .before .before .before .before .if1 .taken)) ((c .before .before .before .before .before .before .rest .ensures))
 
--- src/calls.rt:64:9
 carry-requires : tie.Need-carry-requires
 carry-requires c κs = search needs
 
--- src/calls.rt:65:9
 same-length-4 : tie.Need-same-length-4
 same-length-4 c = search needs
 
--- src/calls.rt:65:9
 same-length-5 : tie.Need-same-length-5
 same-length-5 c = search needs
 
--- src/calls.rt:65:9
 same-length-6 : tie.Need-same-length-6
 same-length-6 c = search needs
 
--- src/calls.rt:65:9
 same-length-7 : tie.Need-same-length-7
 same-length-7 c = search needs
 
--- src/calls.rt:65:9
 same-length-8 : tie.Need-same-length-8
 same-length-8 c = search needs
 
--- src/calls.rt:65:9
 returns-2 : tie.Need-returns-2
 returns-2 c = carry-crossed ((c .before .before .before .before .before .before .before .before .before .before .before .before .before .before .before .before .before .before .before .before .before .before .before .before .before .before .args .rom .now)) ((c .before .before .before .before .before .before .before .before .before .before .before .before .before .before .before .before .before .before .before .before .before .before .before .before .before .before .args .machine .now)) ((c .before .before .before .before .before .before .before .before .before .before .before .before .before .before .before .before .before .before .before .before .before .before .before .before .before .before .args .low .now)) ((c .before .before .before .before .before .before .before .before .before .before .before .before .before .before .before .before .before .before .before .before .before .before .before .before .before .before .args .high .now)) ((c .before .before .before .before .before .before .before .before .before .before .before .before .before .before .before .before .before .before .before .before .before .before .before .before .before .before .args .entries .now)) ((c .before .before .before .before .before .before .before .before .before .before .before .before .before .before .before .before .before .before .before .before .before .before .before .before .before .before .args .out .now)) _ _ _ (all-bytes ((c .before .before .before .before .before .before .before .before .before .before .before .before .before .before .before .before .before .before .before .before .before .before .before .before .before .before .args .machine .now)) (λ k h. (c .before .before .before .before .before .before .before .before .before .before .before .before .before .before .before .before .before .before .before .before .before .before .before .before .before .slice-known .given) k .fits)) ((c .before .before .before .before .before .before .before .before .before .before .before .before .before .before .before .before .before .before .way-of .ensures)) ((c .before .before .before .before .before .before .before .before .before .before .before .before .before .before .before .before .if2 .taken)) ((c .before .before .before .before .before .before .before .before .before .before .carry .ensures))
 
--- src/calls.rt:67:9
 bench-of-requires : tie.Need-bench-of-requires
 bench-of-requires c κs = search needs
 
--- src/calls.rt:68:9
 cycle-requires : tie.Need-cycle-requires
 cycle-requires c κs = search needs
 
--- src/calls.rt:71:5
 save-requires : tie.Need-save-requires
 save-requires c κs = search needs
 
--- src/calls.rt:72:5
 put-answer-requires : tie.Need-put-answer-requires
 put-answer-requires c κs = search needs
 
--- src/calls.rt:35:1
 same-length-9 : tie.Need-same-length-9
 same-length-9 c = search needs
 
--- src/calls.rt:35:1
 same-length-10 : tie.Need-same-length-10
 same-length-10 c = search needs
 
--- src/calls.rt:35:1
 same-length-11 : tie.Need-same-length-11
 same-length-11 c = search needs
 
--- src/calls.rt:35:1
 same-length-12 : tie.Need-same-length-12
 same-length-12 c = search needs
 
--- src/calls.rt:35:1
 same-length-13 : tie.Need-same-length-13
 same-length-13 c = search needs
 
--- src/calls.rt:35:1
 returns-3 : tie.Need-returns-3
 returns-3 c = cycle-by _ _ _ _ _ ((c .before .before .before .before .before .before .before .before .before .before .before .before .before .before .before .before .before .before .before .before .bench-of .ensures)) _ _ _ ((c .before .before .before .before .before .before .before .before .before .before .before .before .before .before .before .before .before .before .before .before .before .before .before .before .before .before .before .before .before .before .before .before .args .out .now)) ((c .before .before .before .before .before .before .before .before .before .before .before .before .before .before .before .before .cycle .ensures)) (left-by _ _ _ _ ((c .before .before .before .before .before .before .save .ensures)) ((c .before .before .put-answer .ensures)))
 

@@ -4,67 +4,51 @@ use borrow.Author.Needs.{needs}
 use Rattle.player_abi.proofs.carry.fetch.Statement.{statement}
 use Rattle.player_abi.proofs.carry.fetch.Tie as tie
 
--- src/carry.rt:86:9
 place-for-requires : tie.Need-place-for-requires
 place-for-requires c κs = search needs
 
--- src/carry.rt:87:9
 peek-requires : tie.Need-peek-requires
 peek-requires c κs = search needs
 
--- src/carry.rt:88:9
 route-of-requires : tie.Need-route-of-requires
 route-of-requires c κs = search needs
 
--- src/carry.rt:90:26
 enum-told : tie.Need-enum-told
 enum-told c = search needs
 
--- src/carry.rt:91:26
 enum-told-2 : tie.Need-enum-told-2
 enum-told-2 c = search needs
 
--- src/carry.rt:92:24
 enum-told-3 : tie.Need-enum-told-3
 enum-told-3 c = search needs
 
--- src/carry.rt:93:39
 enum-told-4 : tie.Need-enum-told-4
 enum-told-4 c = search needs
 
--- src/carry.rt:93:29
 port-byte-requires : tie.Need-port-byte-requires
 port-byte-requires c κs = search needs
 
--- src/carry.rt:94:62
 enum-told-5 : tie.Need-enum-told-5
 enum-told-5 c = search needs
 
--- src/carry.rt:94:62
 array-read-read : tie.Need-array-read-read
 array-read-read c = search needs
 
--- src/carry.rt:94:29
 read-requires : tie.Need-read-requires
 read-requires c κs = search needs
 
--- src/carry.rt:76:1
 returns : tie.Need-returns
 returns c = fetch-by ((c .before .before .before .before .before .before .before .before .args .t1)) ((c .before .before .before .before .before .before .before .before .args .rom .now)) ((c .before .before .before .before .before .before .before .before .args .low .now)) ((c .before .before .before .before .before .before .before .before .args .high .now)) _ _ ((c .before .before .before .before .place-for .ensures)) ((c .before .before .before .peek .ensures)) ((c .before .before .route-of .ensures)) ((c .enum-told .given .1)) refl
 
--- src/carry.rt:76:1
 returns-2 : tie.Need-returns-2
 returns-2 c = fetch-by ((c .before .before .before .before .before .before .before .before .args .t1)) ((c .before .before .before .before .before .before .before .before .args .rom .now)) ((c .before .before .before .before .before .before .before .before .args .low .now)) ((c .before .before .before .before .before .before .before .before .args .high .now)) _ _ ((c .before .before .before .before .place-for .ensures)) ((c .before .before .before .peek .ensures)) ((c .before .before .route-of .ensures)) ((c .enum-told2 .given .1)) refl
 
--- src/carry.rt:76:1
 returns-3 : tie.Need-returns-3
 returns-3 c = fetch-by ((c .before .before .before .before .before .before .before .before .args .t1)) ((c .before .before .before .before .before .before .before .before .args .rom .now)) ((c .before .before .before .before .before .before .before .before .args .low .now)) ((c .before .before .before .before .before .before .before .before .args .high .now)) _ _ ((c .before .before .before .before .place-for .ensures)) ((c .before .before .before .peek .ensures)) ((c .before .before .route-of .ensures)) ((c .enum-told3 .given .1)) refl
 
--- src/carry.rt:76:1
 returns-4 : tie.Need-returns-4
 returns-4 c = fetch-by ((c .before .before .before .before .before .before .before .before .before .args .t1)) ((c .before .before .before .before .before .before .before .before .before .args .rom .now)) ((c .before .before .before .before .before .before .before .before .before .args .low .now)) ((c .before .before .before .before .before .before .before .before .before .args .high .now)) _ _ ((c .before .before .before .before .before .place-for .ensures)) ((c .before .before .before .before .peek .ensures)) ((c .before .before .before .route-of .ensures)) ((c .before .enum-told4 .given .1)) ((c .port-byte .ensures))
 
--- src/carry.rt:76:1
 returns-5 : tie.Need-returns-5
 returns-5 c = fetch-by ((c .before .before .before .before .before .before .before .before .before .args .t1)) ((c .before .before .before .before .before .before .before .before .before .args .rom .now)) ((c .before .before .before .before .before .before .before .before .before .args .low .now)) ((c .before .before .before .before .before .before .before .before .before .args .high .now)) _ _ ((c .before .before .before .before .before .place-for .ensures)) ((c .before .before .before .before .peek .ensures)) ((c .before .before .before .route-of .ensures)) ((c .before .enum-told5 .given .1)) ((c .read .ensures))
 

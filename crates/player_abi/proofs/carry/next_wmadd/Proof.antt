@@ -7,28 +7,33 @@ use borrow.Author.Needs.{needs}
 use Rattle.player_abi.proofs.carry.next_wmadd.Statement.{statement}
 use Rattle.player_abi.proofs.carry.next_wmadd.Tie as tie
 
--- src/carry.rt:112:9
 wmadd-at-requires : tie.Need-wmadd-at-requires
 wmadd-at-requires c κs = search needs
 
--- src/carry.rt:113:8
+slice-aggregate-port-at : tie.Need-slice-aggregate-port-at
+slice-aggregate-port-at c = search needs
+
 port-at-requires : tie.Need-port-at-requires
 port-at-requires c κs = search needs
 
--- src/carry.rt:114:9
 inc-requires : tie.Need-inc-requires
 inc-requires c κs = search needs
 
--- src/carry.rt:114:9
 returns : tie.Need-returns
 unfolding wmaddNext
-returns c = rw (eq-eqb (portAt ((c .before .before .before .before .args .e))) 0x2180 (sym ((c .before .before .port-at .ensures)) ∙ (c .before .if1 .taken))) ((c .inc .ensures) ∙ ap stepped ((c .before .before .before .wmadd-at .ensures)))
+returns c = rw (eq-eqb (portAt ((c .before .before .before .before .before .args .t1))) 0x2180 (sym ((c .before .before .port-at .ensures)) ∙ (c .before .if1 .taken))) ((c .inc .ensures) ∙ ap stepped ((c .before .before .before .before .wmadd-at .ensures)))
 
--- src/carry.rt:109:1
 returns-2 : tie.Need-returns-2
 unfolding wmaddNext
-returns-2 c = rw (ne-eqb (portAt ((c .before .before .before .args .e))) 0x2180 (λ q. (c .if1 .left) ((c .before .port-at .ensures) ∙ q))) ((c .before .before .wmadd-at .ensures))
+returns-2 c = rw (ne-eqb (portAt ((c .before .before .before .before .args .t1))) 0x2180 (λ q. (c .if1 .left) ((c .before .port-at .ensures) ∙ q))) ((c .before .before .before .wmadd-at .ensures))
 
 pub next-wmadd-spec : {M : Type 1} → statement M
 next-wmadd-spec =
-    tie.close (tie.spec wmadd-at-requires port-at-requires inc-requires returns returns-2)
+    tie.close
+    (tie.spec
+    wmadd-at-requires
+    slice-aggregate-port-at
+    port-at-requires
+    inc-requires
+    returns
+    returns-2)

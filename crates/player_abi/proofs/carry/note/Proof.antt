@@ -6,31 +6,24 @@ use borrow.Author.Needs.{needs}
 use Rattle.player_abi.proofs.carry.note.Statement.{statement}
 use Rattle.player_abi.proofs.carry.note.Tie as tie
 
--- src/carry.rt:103:13
 olds-bytes-requires : tie.Need-olds-bytes-requires
 olds-bytes-requires c κs = search needs
 
--- src/carry.rt:104:9
 slice-aggregate-put : tie.Need-slice-aggregate-put
 slice-aggregate-put c = search needs
 
--- src/carry.rt:104:22
 slice-aggregate-put-2 : tie.Need-slice-aggregate-put-2
 slice-aggregate-put-2 c = search needs
 
--- src/carry.rt:104:5
 put-requires : tie.Need-put-requires
 put-requires c κs = search needs
 
--- src/carry.rt:105:5
 put-slot-requires : tie.Need-put-slot-requires
 put-slot-requires c κs = search needs
 
--- src/carry.rt:99:1
 same-length : tie.Need-same-length
 same-length c = search needs
 
--- src/carry.rt:99:1
 returns : tie.Need-returns
 returns c = (c .before .before .put-slot .ensures) ∙ (λ i. writeSlot entrySize ((c .before .before .before .before .before .before .before .before .before .before .args .slot)) (((c .before .before .before .before .before .put .ensures) ∙ (λ j. patched ((c .before .before .before .before .before .before .before .before .before .before .args .e)) 222 ((c .before .before .before .before .before .before .before .before .olds-bytes .ensures) j))) i) ((c .before .before .before .before .before .before .before .before .before .before .args .entries .now)))
 

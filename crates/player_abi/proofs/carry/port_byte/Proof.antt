@@ -5,51 +5,39 @@ use borrow.Author.Needs.{needs}
 use Rattle.player_abi.proofs.carry.port_byte.Statement.{statement}
 use Rattle.player_abi.proofs.carry.port_byte.Tie as tie
 
--- src/carry.rt:55:16
 array-read-result : tie.Need-array-read-result
 array-read-result c = search needs
 
--- src/carry.rt:55:9
 returns : tie.Need-returns
 returns c = rw (below 0x2134 0x2140 ((c .before .args .addr)) ((c .if1 .taken)), below 0x2140 0x2180 ((c .before .args .addr)) (omega (arith, (c .if1 .taken)))) refl
 
--- src/carry.rt:58:17
 cast-i : tie.Need-cast-i
 cast-i c = search needs
 
--- src/carry.rt:59:18
 add-result : tie.Need-add-result
 add-result c = search needs
 
--- src/carry.rt:59:16
 array-read-result-2 : tie.Need-array-read-result-2
 array-read-result-2 c = search needs
 
--- src/carry.rt:59:9
 returns-2 : tie.Need-returns-2
 returns-2 c = rw (inside 0x2134 0x2140 ((c .before .before .args .addr)) ((c .before .if1 .left)) ((c .if2 .taken))) refl
 
--- src/carry.rt:62:17
 cast-i-2 : tie.Need-cast-i-2
 cast-i-2 c = search needs
 
--- src/carry.rt:63:18
 add-result-2 : tie.Need-add-result-2
 add-result-2 c = search needs
 
--- src/carry.rt:63:16
 array-read-result-3 : tie.Need-array-read-result-3
 array-read-result-3 c = search needs
 
--- src/carry.rt:63:9
 returns-3 : tie.Need-returns-3
 returns-3 c = rw (above 0x2134 0x2140 ((c .before .before .before .args .addr)) ((c .before .if2 .left)), inside 0x2140 0x2180 ((c .before .before .before .args .addr)) ((c .before .if2 .left)) ((c .if3 .taken))) refl
 
--- src/carry.rt:65:5
 array-read-result-4 : tie.Need-array-read-result-4
 array-read-result-4 c = search needs
 
--- src/carry.rt:51:1
 returns-4 : tie.Need-returns-4
 returns-4 c = rw (above 0x2134 0x2140 ((c .before .before .before .args .addr)) ((c .before .if2 .left)), above 0x2140 0x2180 ((c .before .before .before .args .addr)) ((c .if3 .left))) refl
 

@@ -3,63 +3,48 @@ use borrow.Author.Needs.{needs}
 use Rattle.player_abi.proofs.carry.put_moved.Statement.{statement}
 use Rattle.player_abi.proofs.carry.put_moved.Tie as tie
 
--- src/carry.rt:196:20
 cast-t9 : tie.Need-cast-t9
 cast-t9 c = search needs
 
--- src/carry.rt:197:17
 slice-aggregate-put : tie.Need-slice-aggregate-put
 slice-aggregate-put c = search needs
 
--- src/carry.rt:197:5
 put-requires : tie.Need-put-requires
 put-requires c κs = search needs
 
--- src/carry.rt:198:16
 access-bytes-requires : tie.Need-access-bytes-requires
 access-bytes-requires c κs = search needs
 
--- src/carry.rt:204:14
 access-bytes-requires-2 : tie.Need-access-bytes-requires-2
 access-bytes-requires-2 c κs = search needs
 
--- src/carry.rt:211:9
 slice-aggregate-put-2 : tie.Need-slice-aggregate-put-2
 slice-aggregate-put-2 c = search needs
 
--- src/carry.rt:211:20
 slice-aggregate-put-3 : tie.Need-slice-aggregate-put-3
 slice-aggregate-put-3 c = search needs
 
--- src/carry.rt:211:5
 put-requires-2 : tie.Need-put-requires-2
 put-requires-2 c κs = search needs
 
--- src/carry.rt:212:9
 slice-aggregate-put-4 : tie.Need-slice-aggregate-put-4
 slice-aggregate-put-4 c = search needs
 
--- src/carry.rt:212:20
 slice-aggregate-put-5 : tie.Need-slice-aggregate-put-5
 slice-aggregate-put-5 c = search needs
 
--- src/carry.rt:212:5
 put-requires-3 : tie.Need-put-requires-3
 put-requires-3 c κs = search needs
 
--- src/carry.rt:213:17
 slice-aggregate-put-6 : tie.Need-slice-aggregate-put-6
 slice-aggregate-put-6 c = search needs
 
--- src/carry.rt:213:5
 put-requires-4 : tie.Need-put-requires-4
 put-requires-4 c κs = search needs
 
--- src/carry.rt:193:1
 same-length : tie.Need-same-length
 same-length c = search needs
 
--- src/carry.rt:193:1
 returns : tie.Need-returns
 returns c = moved-by ((c .before .before .before .before .before .before .before .before .before .before .before .before .before .before .before .before .before .before .before .before .before .args .out .now)) ((c .before .before .before .before .before .before .before .before .before .before .before .before .before .before .before .before .before .before .before .before .before .args .edge)) ((c .before .before .before .before .before .before .before .before .before .before .before .before .before .before .before .before .before .before .before .before .before .args .trip)) ((c .before .before .before .before .before .before .before .before .before .before .before .before .before .before .before .before .before .before .before .before .before .args .byte)) ((c .before .before .before .before .before .before .before .before .before .before .before .before .before .before .before .before .before .put .ensures)) ((c .before .before .before .before .before .before .before .before .before .before .before .before .before .before .access-bytes .ensures)) ((c .before .before .before .before .before .before .before .before .before .before .before .before .before .access-bytes2 .ensures)) ((c .before .before .before .before .before .before .before .before .before .before .put2 .ensures)) ((c .before .before .before .before .before .before .put3 .ensures)) ((c .before .before .put4 .ensures))
 

@@ -3,69 +3,53 @@ use borrow.Author.Needs.{needs}
 use Rattle.player_abi.proofs.rest.rest.Statement.{statement}
 use Rattle.player_abi.proofs.rest.rest.Tie as tie
 
--- src/rest.rt:90:13
 slot-bytes-requires : tie.Need-slot-bytes-requires
 slot-bytes-requires c κs = search needs
 
--- src/rest.rt:91:9
 slot-at-requires : tie.Need-slot-at-requires
 slot-at-requires c κs = search needs
 
--- src/rest.rt:92:9
 kept-at-requires : tie.Need-kept-at-requires
 kept-at-requires c κs = search needs
 
--- src/rest.rt:93:9
 length-at-requires : tie.Need-length-at-requires
 length-at-requires c κs = search needs
 
--- src/rest.rt:94:9
 wait-at-requires : tie.Need-wait-at-requires
 wait-at-requires c κs = search needs
 
--- src/rest.rt:95:9
 clock-at-requires : tie.Need-clock-at-requires
 clock-at-requires c κs = search needs
 
--- src/rest.rt:96:9
 line-at-requires : tie.Need-line-at-requires
 line-at-requires c κs = search needs
 
--- src/rest.rt:97:5
+byte-requires : tie.Need-byte-requires
+byte-requires c κs = search needs
+
 put-slot-requires : tie.Need-put-slot-requires
 put-slot-requires c κs = search needs
 
--- src/rest.rt:98:5
 tick-requires : tie.Need-tick-requires
 tick-requires c κs = search needs
 
--- src/rest.rt:99:5
 count-requires : tie.Need-count-requires
 count-requires c κs = search needs
 
--- src/rest.rt:100:38
-array-read-put-quiet : tie.Need-array-read-put-quiet
-array-read-put-quiet c = search needs
-
--- src/rest.rt:100:5
 put-quiet-requires : tie.Need-put-quiet-requires
 put-quiet-requires c κs = search needs
 
--- src/rest.rt:87:1
 same-length : tie.Need-same-length
 same-length c = search needs
 
--- src/rest.rt:87:1
 same-length-2 : tie.Need-same-length-2
 same-length-2 c = search needs
 
--- src/rest.rt:87:1
 same-length-3 : tie.Need-same-length-3
 same-length-3 c = search needs
 
--- src/rest.rt:87:1
 returns : tie.Need-returns
-returns c = rested-by ((c .before .before .before .before .before .before .before .before .before .before .before .before .before .before .before .before .before .before .before .before .before .before .before .before .before .before .before .before .before .before .args .machine .now)) ((c .before .before .before .before .before .before .before .before .before .before .before .before .before .before .before .before .before .before .before .before .before .before .before .before .before .before .before .before .before .before .args .entries .now)) ((c .before .before .before .before .before .before .before .before .before .before .before .before .before .before .before .before .before .before .before .before .before .before .before .before .before .before .before .before .before .before .args .out .now)) ((c .before .before .before .before .before .before .before .before .before .before .before .before .before .before .before .before .before .before .before .before .before .before .before .before .before .slot-bytes .ensures)) ((c .before .before .before .before .before .before .before .before .before .before .before .before .before .before .before .before .before .before .before .before .before .before .before .slot-at .ensures)) ((c .before .before .before .before .before .before .before .before .before .before .before .before .before .before .before .before .before .before .before .before .before .kept-at .ensures)) ((c .before .before .before .before .before .before .before .before .before .before .before .before .before .before .before .before .before .before .before .length-at .ensures)) ((c .before .before .before .before .before .before .before .before .before .before .before .before .before .before .before .before .before .before .wait-at .ensures)) ((c .before .before .before .before .before .before .before .before .before .before .before .before .before .before .before .before .before .clock-at .ensures)) ((c .before .before .before .before .before .before .before .before .before .before .before .before .before .before .before .before .line-at .ensures)) ((c .before .before .before .before .before .before .before .before .before .before .before .before .before .before .put-slot .ensures)) ((c .before .before .before .before .before .before .before .before .before .before .tick .ensures)) ((c .before .before .before .before .before .before .count .ensures)) ((c .before .before .put-quiet .ensures))
+returns c = rested-by ((c .before .before .before .before .before .before .before .before .before .before .before .before .before .before .before .before .before .before .before .before .before .before .before .before .before .before .before .before .before .before .before .before .before .before .before .args .machine .now)) ((c .before .before .before .before .before .before .before .before .before .before .before .before .before .before .before .before .before .before .before .before .before .before .before .before .before .before .before .before .before .before .before .before .before .before .before .args .entries .now)) ((c .before .before .before .before .before .before .before .before .before .before .before .before .before .before .before .before .before .before .before .before .before .before .before .before .before .before .before .before .before .before .before .before .before .before .before .args .out .now)) ((c .before .before .before .before .before .before .before .before .before .before .before .before .before .before .before .before .before .before .before .before .before .before .before .before .before .before .before .before .before .before .slot-bytes .ensures)) ((c .before .before .before .before .before .before .before .before .before .before .before .before .before .before .before .before .before .before .before .before .before .before .before .before .before .before .before .before .slot-at .ensures)) ((c .before .before .before .before .before .before .before .before .before .before .before .before .before .before .before .before .before .before .before .before .before .before .before .before .before .before .kept-at .ensures)) ((c .before .before .before .before .before .before .before .before .before .before .before .before .before .before .before .before .before .before .before .before .before .before .before .before .length-at .ensures)) ((c .before .before .before .before .before .before .before .before .before .before .before .before .before .before .before .before .before .before .before .before .before .before .wait-at .ensures)) ((c .before .before .before .before .before .before .before .before .before .before .before .before .before .before .before .before .before .before .before .before .clock-at .ensures)) ((c .before .before .before .before .before .before .before .before .before .before .before .before .before .before .before .before .before .before .line-at .ensures)) ((c .before .before .before .before .before .before .before .before .before .before .before .before .before .before .before .before .byte .ensures)) ((c .before .before .before .before .before .before .before .before .before .before .before .before .before .before .put-slot .ensures)) ((c .before .before .before .before .before .before .before .before .before .before .tick .ensures)) ((c .before .before .before .before .before .before .count .ensures)) ((c .before .before .put-quiet .ensures))
 
 pub rest-spec : {M : Type 1} → statement M
 rest-spec =
@@ -78,10 +62,10 @@ rest-spec =
     wait-at-requires
     clock-at-requires
     line-at-requires
+    byte-requires
     put-slot-requires
     tick-requires
     count-requires
-    array-read-put-quiet
     put-quiet-requires
     same-length
     same-length-2

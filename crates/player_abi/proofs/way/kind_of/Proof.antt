@@ -1,4 +1,6 @@
 use mathlib.Core.Path.{sym, refl, _∙_}
+use Rattle.image.specs.Encode.{entrySize}
+use Rattle.entry.specs.Slot.{readSlot}
 use Rattle.ranges.specs.Entry.{entryOk}
 use Rattle.player_abi.proofs.WayJoin.{either}
 use Rattle.player_abi.specs.Way.{kindOf}
@@ -6,34 +8,27 @@ use borrow.Author.Needs.{needs}
 use Rattle.player_abi.proofs.way.kind_of.Statement.{statement}
 use Rattle.player_abi.proofs.way.kind_of.Tie as tie
 
--- src/way.rt:150:8
 calm-at-requires : tie.Need-calm-at-requires
 calm-at-requires c κs = search needs
 
--- src/way.rt:151:13
 turn-of-requires : tie.Need-turn-of-requires
 turn-of-requires c κs = search needs
 
--- src/way.rt:153:16
-entry-ok-requires : tie.Need-entry-ok-requires
-entry-ok-requires c κs = search needs
+image-ok-requires : tie.Need-image-ok-requires
+image-ok-requires c κs = search needs
 
--- src/way.rt:154:17
 returns : tie.Need-returns
 unfolding kindOf
-returns c = rw (sym ((c .before .before .before .before .before .calm-at .ensures)) ∙ (c .before .before .before .before .if1 .taken), sym ((c .before .entry-ok .ensures)) ∙ (c .if3 .taken)) ((c .before .before .before .turn-of .ensures))
+returns c = rw (sym ((c .before .before .before .before .before .calm-at .ensures)) ∙ (c .before .before .before .before .if1 .taken), sym ((c .before .image-ok .ensures)) ∙ (c .if3 .taken)) ((c .before .before .before .turn-of .ensures))
 
--- src/way.rt:147:1
 returns-2 : tie.Need-returns-2
 unfolding kindOf
-returns-2 c = rw (sym ((c .before .before .before .before .before .calm-at .ensures)) ∙ (c .before .before .before .before .if1 .taken), sym ((c .before .entry-ok .ensures)) ∙ (c .if3 .left)) refl
+returns-2 c = rw (sym ((c .before .before .before .before .before .calm-at .ensures)) ∙ (c .before .before .before .before .if1 .taken), sym ((c .before .image-ok .ensures)) ∙ (c .if3 .left)) refl
 
--- src/way.rt:147:1
 returns-3 : tie.Need-returns-3
 unfolding kindOf
-returns-3 c = rw (sym ((c .before .before .before .calm-at .ensures)) ∙ (c .before .before .if1 .taken)) (either (entryOk ((c .before .before .before .before .args .e))) (sym ((c .before .turn-of .ensures)) ∙ (c .if2 .left)))
+returns-3 c = rw (sym ((c .before .before .before .calm-at .ensures)) ∙ (c .before .before .if1 .taken)) (either (entryOk (readSlot entrySize 0 ((c .before .before .before .before .before .args .s .now)))) (sym ((c .before .turn-of .ensures)) ∙ (c .if2 .left)))
 
--- src/way.rt:147:1
 returns-4 : tie.Need-returns-4
 unfolding kindOf
 returns-4 c = rw (sym ((c .before .calm-at .ensures)) ∙ (c .if1 .left)) refl
@@ -44,7 +39,7 @@ kind-of-spec =
     (tie.spec
     calm-at-requires
     turn-of-requires
-    entry-ok-requires
+    image-ok-requires
     returns
     returns-2
     returns-3

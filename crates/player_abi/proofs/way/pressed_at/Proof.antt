@@ -1,77 +1,22 @@
-use Prim.Native.Nat.{_-_}
-use mathlib.Core.Bool.{_&&_}
-use lib.Bits.{bitAnd}
-use lib.Dec.{eqb}
 use borrow.Author.Needs.{needs}
 use Rattle.player_abi.proofs.way.pressed_at.Statement.{statement}
 use Rattle.player_abi.proofs.way.pressed_at.Tie as tie
 
--- src/way.rt:58:12
-array-read-join2 : tie.Need-array-read-join2
-array-read-join2 c = search needs
+two-requires : tie.Need-two-requires
+two-requires c κs = search needs
 
--- src/way.rt:58:19
-array-read-join2-2 : tie.Need-array-read-join2-2
-array-read-join2-2 c = search needs
+two-requires-2 : tie.Need-two-requires-2
+two-requires-2 c κs = search needs
 
--- src/way.rt:58:6
-join2-requires : tie.Need-join2-requires
-join2-requires c κs = search needs
+two-requires-3 : tie.Need-two-requires-3
+two-requires-3 c κs = search needs
 
--- src/way.rt:58:45
-array-read-join2-3 : tie.Need-array-read-join2-3
-array-read-join2-3 c = search needs
+two-requires-4 : tie.Need-two-requires-4
+two-requires-4 c κs = search needs
 
--- src/way.rt:58:52
-array-read-join2-4 : tie.Need-array-read-join2-4
-array-read-join2-4 c = search needs
-
--- src/way.rt:58:39
-join2-requires-2 : tie.Need-join2-requires-2
-join2-requires-2 c κs = search needs
-
--- src/way.rt:59:18
-array-read-join2-5 : tie.Need-array-read-join2-5
-array-read-join2-5 c = search needs
-
--- src/way.rt:59:25
-array-read-join2-6 : tie.Need-array-read-join2-6
-array-read-join2-6 c = search needs
-
--- src/way.rt:59:12
-join2-requires-3 : tie.Need-join2-requires-3
-join2-requires-3 c κs = search needs
-
--- src/way.rt:59:51
-array-read-join2-7 : tie.Need-array-read-join2-7
-array-read-join2-7 c = search needs
-
--- src/way.rt:59:58
-array-read-join2-8 : tie.Need-array-read-join2-8
-array-read-join2-8 c = search needs
-
--- src/way.rt:59:45
-join2-requires-4 : tie.Need-join2-requires-4
-join2-requires-4 c κs = search needs
-
--- src/way.rt:55:1
 returns : tie.Need-returns
-returns c = λ i. eqb (bitAnd ((c .before .before .before .join2 .ensures) i) (65535 - 15)) ((c .before .before .join22 .ensures) i) && eqb (bitAnd ((c .before .join23 .ensures) i) (65535 - 15)) ((c .join24 .ensures) i)
+returns c = simp ((c .before .before .before .two .ensures), (c .before .before .two2 .ensures), (c .before .two3 .ensures), (c .two4 .ensures))
 
 pub pressed-at-spec : {M : Type 1} → statement M
 pressed-at-spec =
-    tie.close
-    (tie.spec
-    array-read-join2
-    array-read-join2-2
-    join2-requires
-    array-read-join2-3
-    array-read-join2-4
-    join2-requires-2
-    array-read-join2-5
-    array-read-join2-6
-    join2-requires-3
-    array-read-join2-7
-    array-read-join2-8
-    join2-requires-4
-    returns)
+    tie.close (tie.spec two-requires two-requires-2 two-requires-3 two-requires-4 returns)

@@ -5,29 +5,23 @@ use borrow.Author.Needs.{needs}
 use Rattle.player_abi.proofs.way.turn_of.Statement.{statement}
 use Rattle.player_abi.proofs.way.turn_of.Tie as tie
 
--- src/way.rt:137:8
 waiting-at-requires : tie.Need-waiting-at-requires
 waiting-at-requires c κs = search needs
 
--- src/way.rt:138:9
 returns : tie.Need-returns
 unfolding turnOf
 returns c = rw (sym ((c .before .waiting-at .ensures)) ∙ (c .if1 .taken)) refl
 
--- src/way.rt:140:8
 due-at-requires : tie.Need-due-at-requires
 due-at-requires c κs = search needs
 
--- src/way.rt:140:20
 plain-trip-requires : tie.Need-plain-trip-requires
 plain-trip-requires c κs = search needs
 
--- src/way.rt:141:9
 returns-2 : tie.Need-returns-2
 unfolding turnOf
 returns-2 c = rw (sym ((c .before .before .before .before .waiting-at .ensures)) ∙ (c .before .before .before .if1 .left), sym (λ i. (c .before .before .due-at .ensures) i && (c .before .plain-trip .ensures) i) ∙ (c .if2 .taken)) refl
 
--- src/way.rt:134:1
 returns-3 : tie.Need-returns-3
 unfolding turnOf
 returns-3 c = rw (sym ((c .before .before .before .before .waiting-at .ensures)) ∙ (c .before .before .before .if1 .left), sym (λ i. (c .before .before .due-at .ensures) i && (c .before .plain-trip .ensures) i) ∙ (c .if2 .left)) refl

@@ -1,52 +1,39 @@
-use mathlib.Core.Path.{sym, refl, ap, _∙_}
+use mathlib.Core.Path.{sym, refl, _∙_}
 use mathlib.Core.Bool.{_&&_}
 use borrow.Author.Tests.{eq-eqb, ne-eqb}
 use lib.ListN.{length}
 use Rattle.ranges.specs.Tests.{all}
-use Rattle.player_abi.specs.Way.{lentTests, kindOf, wayOf}
+use Rattle.player_abi.specs.Way.{lentTests, wayOf}
 use borrow.Author.Needs.{needs}
 use Rattle.player_abi.proofs.way.way_of.Statement.{statement}
 use Rattle.player_abi.proofs.way.way_of.Tie as tie
 
--- src/way.rt:199:9
 returns : tie.Need-returns
 unfolding wayOf
 returns c = rw (ne-eqb (length ((c .before .before .args .s .now))) 280 ((c .if1 .taken))) refl
 
--- src/way.rt:201:9
 length-at-requires : tie.Need-length-at-requires
 length-at-requires c κs = search needs
 
--- src/way.rt:202:9
 slot-at-requires : tie.Need-slot-at-requires
 slot-at-requires c κs = search needs
 
--- src/way.rt:203:9
 kept-at-requires : tie.Need-kept-at-requires
 kept-at-requires c κs = search needs
 
--- src/way.rt:204:8
 plain-requires : tie.Need-plain-requires
 plain-requires c κs = search needs
 
--- src/way.rt:204:36
 lent-ok-requires : tie.Need-lent-ok-requires
 lent-ok-requires c κs = search needs
 
--- src/way.rt:205:13
-slot-bytes-requires : tie.Need-slot-bytes-requires
-slot-bytes-requires c κs = search needs
-
--- src/way.rt:206:9
 kind-of-requires : tie.Need-kind-of-requires
 kind-of-requires c κs = search needs
 
--- src/way.rt:206:9
 returns-2 : tie.Need-returns-2
 unfolding wayOf
-returns-2 c = let lent = (c .before .before .before .lent-ok .ensures) ∙ (λ i. all (lentTests ((c .before .before .before .before .before .before .before .before .before .before .args .low)) ((c .before .before .before .before .before .before .before .before .before .before .args .high)) ((c .before .before .before .before .before .before .before .before .before .before .args .room)) ((c .before .before .before .before .before .before .before .before .before .before .args .rom)) ((c .before .before .before .before .before .before .before .length-at .ensures) i) ((c .before .before .before .before .before .before .slot-at .ensures) i) ((c .before .before .before .before .before .kept-at .ensures) i))) in rw (eq-eqb (length ((c .before .before .before .before .before .before .before .before .before .before .args .s .now))) 280 ((c .before .before .before .before .before .before .before .before .if1 .left)), sym (λ i. (c .before .before .before .before .plain .ensures) i && lent i) ∙ (c .before .before .if2 .taken)) ((c .kind-of .ensures) ∙ ap kindOf ((c .before .slot-bytes .ensures)))
+returns-2 c = let lent = (c .before .before .lent-ok .ensures) ∙ (λ i. all (lentTests ((c .before .before .before .before .before .before .before .before .before .args .low)) ((c .before .before .before .before .before .before .before .before .before .args .high)) ((c .before .before .before .before .before .before .before .before .before .args .room)) ((c .before .before .before .before .before .before .before .before .before .args .rom)) ((c .before .before .before .before .before .before .length-at .ensures) i) ((c .before .before .before .before .before .slot-at .ensures) i) ((c .before .before .before .before .kept-at .ensures) i))) in rw (eq-eqb (length ((c .before .before .before .before .before .before .before .before .before .args .s .now))) 280 ((c .before .before .before .before .before .before .before .if1 .left)), sym (λ i. (c .before .before .before .plain .ensures) i && lent i) ∙ (c .before .if2 .taken)) ((c .kind-of .ensures))
 
--- src/way.rt:186:1
 returns-3 : tie.Need-returns-3
 unfolding wayOf
 returns-3 c = let lent = (c .before .lent-ok .ensures) ∙ (λ i. all (lentTests ((c .before .before .before .before .before .before .before .before .args .low)) ((c .before .before .before .before .before .before .before .before .args .high)) ((c .before .before .before .before .before .before .before .before .args .room)) ((c .before .before .before .before .before .before .before .before .args .rom)) ((c .before .before .before .before .before .length-at .ensures) i) ((c .before .before .before .before .slot-at .ensures) i) ((c .before .before .before .kept-at .ensures) i))) in rw (eq-eqb (length ((c .before .before .before .before .before .before .before .before .args .s .now))) 280 ((c .before .before .before .before .before .before .if1 .left)), sym (λ i. (c .before .before .plain .ensures) i && lent i) ∙ (c .if2 .left)) refl
@@ -61,7 +48,6 @@ way-of-spec =
     kept-at-requires
     plain-requires
     lent-ok-requires
-    slot-bytes-requires
     kind-of-requires
     returns-2
     returns-3)

@@ -63,6 +63,7 @@ module _ (e : List ℕ) where
   byteBy rom Registers b a v = portByte a
   byteBy rom Cartridge b a v = romByte rom b a (byteAt e 25)
 
+  -- the byte at an address
   unfoldable pub byteFrom : (rom l h : List ℕ) → ℕ → ℕ → ℕ
   byteFrom rom l h b a = byteBy rom (routeOf b a) b a (peeked (banks l h) (placeFor b a))
 
@@ -91,6 +92,7 @@ pub record Carried : Type 0 where
   pub entries : List ℕ
   pub out : List ℕ
 
+-- these of the code's slices
 abbrev pub carrying : List ℕ → List ℕ → List ℕ → List ℕ → List ℕ → Carried
 carrying m l h e o = record { machine = m; low = l; high = h; entries = e; out = o }
 

@@ -34,9 +34,11 @@ pub record Rested : Type 0 where
   pub entries : List ℕ
   pub out : List ℕ
 
+-- these of the code's slices
 abbrev pub resting : List ℕ → List ℕ → List ℕ → Rested
 resting m e o = record { machine = m; entries = e; out = o }
 
+-- the entry is a copy of the image; no access is answered
 unfoldable pub rested : (s en out : List ℕ) → Rested
 rested s en out =
     resting (counting (ticking s (lineAt s) (waitAt s) (clockAt s)) (slotAt s) (keptAt s) (lengthAt s))

@@ -32,13 +32,15 @@ memory Registers = false
 memory Cartridge = true
 
 module _ (s : List ℕ) where
-  -- the wait, the clock and the NMI line
+  -- cycles that the unit still waits
   abbrev pub waitAt : ℕ
   waitAt = field 4 s 67
 
+  -- the master clock
   abbrev pub clockAt : ℕ
   clockAt = field 8 s 214
 
+  -- the NMI line: NMITIMEN and RDNMI bit 7
   abbrev pub lineAt : Bool
   lineAt = not (eqb (bitAnd (byteAt s 4) 0x80) 0) && not (eqb (bitAnd (byteAt s 22) 0x80) 0)
 
@@ -61,29 +63,35 @@ module _ (s : List ℕ) where
   abbrev pub waitingAt : Bool
   waitingAt = ltb 0 waitAt || (eqb (byteAt s 71) 0 && eqb (byteAt s 59) 0)
 
-  -- the channel in progress: where its registers stand; the place in its units; DMAP, A1T, its bank and DAS
+  -- where the registers of the channel in progress stand
   abbrev pub baseAt : ℕ
   baseAt = 98 + 12 * (byteAt s 62 % 8)
 
+  -- its DMAP
   abbrev pub dmapAt : ℕ
   dmapAt = byteAt s baseAt
 
+  -- the place in its transfer units
   abbrev pub unitAt : ℕ
   unitAt = field 4 s 63
 
+  -- its A1T
   abbrev pub a1tAt : ℕ
   a1tAt = field 2 s (baseAt + 2)
 
+  -- the bank of A1T
   abbrev pub a1bAt : ℕ
   a1bAt = byteAt s (baseAt + 4)
 
+  -- its DAS
   abbrev pub dasAt : ℕ
   dasAt = field 2 s (baseAt + 5)
 
-  -- the port on the B side, and where the byte comes from and goes to
+  -- the port on the B side
   abbrev pub portAt : ℕ
   portAt = bAddress (byteAt s (baseAt + 1)) (offsetOf dmapAt unitAt)
 
+  -- where the byte comes from and goes to
   abbrev pub tripAt : Trip
   tripAt = tripOf dmapAt a1bAt a1tAt portAt
 
@@ -109,13 +117,15 @@ module _ (s : List ℕ) where
   unfoldable pub kindOf : ℕ
   kindOf = pick (all calmTests) (pick (entryOk (readSlot entrySize 0 s)) turnOf 0) 0
 
--- the record's counts
+-- the next slot of the record
 abbrev pub slotAt : List ℕ → ℕ
 slotAt s = field 8 s 256
 
+-- how many entries it keeps
 abbrev pub keptAt : List ℕ → ℕ
 keptAt s = field 8 s 264
 
+-- its length in bytes
 abbrev pub lengthAt : List ℕ → ℕ
 lengthAt s = field 8 s 272
 

@@ -43,19 +43,19 @@ pub struct Access {
     pub byte: u8,
 }
 
-/// What a cycle answers.
+/// What a cycle answers. Its accesses stand with the machine until the next call, so that a cycle copies none.
 #[derive(Clone, Copy, Debug, PartialEq, Eq)]
-pub struct Cycle {
+pub struct Cycle<'a> {
     /// DMA had the bus.
     pub held: bool,
     /// The NMI line rose.
     pub nmi: bool,
-    bytes: [u8; ANSWER_SIZE],
+    bytes: &'a [u8; ANSWER_SIZE],
 }
 
-impl Cycle {
+impl<'a> Cycle<'a> {
     /// The accesses of this cycle, in order: none to eleven.
-    pub fn accesses(&self) -> impl ExactSizeIterator<Item = Access> + '_ {
+    pub fn accesses(&self) -> impl ExactSizeIterator<Item = Access> + 'a {
         self.bytes[3..]
             .chunks_exact(5)
             .take(self.bytes[2].into())
@@ -83,6 +83,7 @@ pub struct Machine {
     high: Box<[u8]>,
     record: Box<[u8]>,
     rom: Box<[u8]>,
+    answer: [u8; ANSWER_SIZE],
 }
 
 impl Machine {
@@ -99,24 +100,32 @@ impl Machine {
             high: bank(),
             record: vec![0; length].into(),
             rom: rom.into(),
+            answer: [0; ANSWER_SIZE],
         })
     }
 
-    fn lent(&mut self) -> Lent<'_> {
+    /// All that a call is lent, and the buffer for a cycle's answer.
+    fn parts(&mut self) -> (Lent<'_>, &mut [u8; ANSWER_SIZE]) {
         let Self {
             bytes,
             low,
             high,
             record,
             rom,
+            answer,
         } = self;
-        Lent {
+        let lent = Lent {
             machine: bytes,
             low,
             high,
             record,
             rom,
-        }
+        };
+        (lent, answer)
+    }
+
+    fn lent(&mut self) -> Lent<'_> {
+        self.parts().0
     }
 
     /// One master cycle.
@@ -125,19 +134,13 @@ impl Machine {
         event: Event,
         line_due: bool,
         timer_hit: bool,
-    ) -> Result<Cycle, Refusal> {
-        let mut bytes = [0; ANSWER_SIZE];
-        Refusal::check(raw::cycle(
-            self.lent(),
-            event as u8,
-            line_due,
-            timer_hit,
-            &mut bytes,
-        ))?;
+    ) -> Result<Cycle<'_>, Refusal> {
+        let (lent, answer) = self.parts();
+        Refusal::check(raw::cycle(lent, event as u8, line_due, timer_hit, answer))?;
         Ok(Cycle {
-            held: bytes[0] != 0,
-            nmi: bytes[1] != 0,
-            bytes,
+            held: answer[0] != 0,
+            nmi: answer[1] != 0,
+            bytes: answer,
         })
     }
 

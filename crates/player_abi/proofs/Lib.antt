@@ -6,4 +6,3 @@ pub mod MoveLaws
 pub mod QuietLaws
 pub mod RestJoin
 pub mod RestLaws
-pub mod WayJoin

@@ -1,8 +1,9 @@
-use mathlib.Core.Path.{sym, refl, _∙_}
+use mathlib.Core.Path.{_≡_, sym, refl, _∙_}
 use Rattle.image.specs.Encode.{entrySize}
 use Rattle.entry.specs.Slot.{readSlot}
 use Rattle.ranges.specs.Entry.{entryOk}
-use Rattle.player_abi.proofs.WayJoin.{either}
+use Rattle.common.proofs.TableLaws.{pick-elim}
+use Prim.Native.Nat.{ℕ}
 use Rattle.player_abi.specs.Way.{kindOf}
 use borrow.Author.Needs.{needs}
 use Rattle.player_abi.proofs.way.kind_of.Statement.{statement}
@@ -27,7 +28,7 @@ returns-2 c = rw (sym ((c .before .before .before .before .before .calm-at .ensu
 
 returns-3 : tie.Need-returns-3
 unfolding kindOf
-returns-3 c = rw (sym ((c .before .before .before .calm-at .ensures)) ∙ (c .before .before .if1 .taken)) (either (entryOk (readSlot entrySize 0 ((c .before .before .before .before .before .args .s .now)))) (sym ((c .before .turn-of .ensures)) ∙ (c .if2 .left)))
+returns-3 c = rw (sym ((c .before .before .before .calm-at .ensures)) ∙ (c .before .before .if1 .taken)) (pick-elim (λ (n : ℕ). 0 ≡ n) (entryOk (readSlot entrySize 0 ((c .before .before .before .before .before .args .s .now)))) (sym (sym ((c .before .turn-of .ensures)) ∙ (c .if2 .left))) refl)
 
 returns-4 : tie.Need-returns-4
 unfolding kindOf

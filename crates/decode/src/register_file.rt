@@ -21,7 +21,7 @@ use registers::math::Math;
 use registers::pads::Pads;
 use registers::wm_address::WmAddress;
 
-pub fn word_at(e: [u8; ENTRY_SIZE], k: usize) -> u16
+fn word_at(e: [u8; ENTRY_SIZE], k: usize) -> u16
     requires { ⌜ k + 2 ≤ entrySize ⌝ }
     ensures { λ r. ⌜ r ≡ field 2 e k ⌝ }
 {

@@ -21,12 +21,12 @@ use crate::way::line_at;
 use crate::way::port_at;
 use crate::way::trip_at;
 use crate::way::unit_at;
+use benchfile::word::two;
 use bus::access::Access;
 use bus::route::Route;
 use bus::route::place_of;
 use bus::route::route_of;
 use decode::register_file::wmadd_at;
-use decode::register_file::word_at;
 use entry::slot_bytes;
 use fields::four_bytes;
 use fields::put;
@@ -151,6 +151,8 @@ fn after_move(e: [u8; ENTRY_SIZE], byte: u8) -> [u8; ENTRY_SIZE]
     ensures { λ r. ⌜ r ≡ afterMove e byte ⌝ }
 {
     let base = base_at(&e);
+    let a = next_a1t(e[base], two(&e, base + 2));
+    let d = dec16(two(&e, base + 5));
     let nmi = line_at(&e);
     let unit = std::num::wrapping_add_u32(unit_at(&e), 1);
     let clock = std::num::wrapping_add_u64(clock_at(&e), 1);
@@ -166,10 +168,8 @@ fn after_move(e: [u8; ENTRY_SIZE], byte: u8) -> [u8; ENTRY_SIZE]
     put(&mut x, 63, &steps);
     let wait = four_bytes(7);
     put(&mut x, 67, &wait);
-    let a = next_a1t(e[base], word_at(e, base + 2));
     let a1t = two_bytes(a);
     put(&mut x, base + 2, &a1t);
-    let d = dec16(word_at(e, base + 5));
     let das = two_bytes(d);
     put(&mut x, base + 5, &das);
     let written = next_written(e, byte);

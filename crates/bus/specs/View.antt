@@ -24,6 +24,7 @@ withChannel k ch c = withIo k (withIo-channels (k .io) (set (k .io .channels) (c
 unfoldable pub mdmaenOf : Core → ℕ
 mdmaenOf k = k .io .enables .mdmaen
 
+-- and set
 unfoldable pub withMdmaen : Core → ℕ → Core
 withMdmaen k m = withIo k (withIo-enables (k .io) (withEnables-mdmaen (k .io .enables) m))
 

@@ -24,13 +24,15 @@ pub record Reading : Type 0 where
   pub world : World
   pub byte : ℕ
 
--- these of the code's values
+-- a world of the code's values
 abbrev pub world : Core → List ℕ → List ℕ → World
 world k l h = record { core = k; ram = banks l h }
 
+-- a read's answer with both banks
 abbrev pub reading : BusRead → List ℕ → List ℕ → Reading
 reading r l h = record { world = world (r .core) l h; byte = r .byte }
 
+-- registers, log and bytes overwritten put together
 abbrev pub core : Io → Log → Olds → Core
 core io log olds = record { io = io; log = log; olds = olds }
 

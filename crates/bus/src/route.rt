@@ -17,16 +17,12 @@ pub enum Route {
 fn system_route(addr: u16) -> Route
     ensures { λ r. ⌜ r ≡ systemRoute addr ⌝ }
 {
-    if addr < 0x2000 {
-        return Route::Bank7E;
+    match addr {
+        0x0000..0x2000 => Route::Bank7E,
+        0x2180 => Route::Data,
+        0x2000..0x6000 => Route::Registers,
+        _ => Route::Cartridge,
     }
-    if addr < 0x6000 {
-        if addr == 0x2180 {
-            return Route::Data;
-        }
-        return Route::Registers;
-    }
-    Route::Cartridge
 }
 
 pub fn route_of(bank: u8, addr: u16) -> Route

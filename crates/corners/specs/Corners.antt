@@ -1,15 +1,14 @@
 -- Document 01, "Corners proved together": for (a) to (j) what the definitions give, that the code is proved against, beside what the
 -- document lists. Yes is 1 and no is 0.
-use Prim.Native.Nat.{ℕ, zero, suc, _+_}
+use Prim.Native.Nat.{ℕ, zero, suc, _+_, _-_}
 use mathlib.Core.Bool.{Bool, true, false}
 use mathlib.Core.List.{List, [], _∷_}
-use lib.ListN.{set}
+use lib.ListN.{getD, set}
 use mir.Val.{boolByte}
-use Rattle.bus.specs.Access.{opened}
+use Rattle.bus.specs.Access.{noAccess, opened}
 use Rattle.bus.specs.World.{world}
 use Rattle.dma.specs.Cycle.{alignment}
 use Rattle.hdma.specs.Engine.{DmaWorld, at, withChannels, hdmaAt}
-use Rattle.hdma.specs.Entry.{counted}
 use Rattle.hdma.specs.Line.{lineChannel}
 use Rattle.machine.specs.Cycle.{machineAfter, cycled}
 use Rattle.machine.specs.PowerOn.{powerOnDma, powerOnMachine}
@@ -26,6 +25,7 @@ use Rattle.registers.specs.declared.channel.DmaChannel.{DmaChannel}
 use Rattle.registers.specs.declared.wm_address.WmAddBank.{WmAddBank}
 use Rattle.registers.specs.declared.wm_address.WmAddBank.the-variants.{Bank7E, Bank7F}
 use Rattle.state.specs.Hdma.{noHdma}
+use Rattle.state.specs.declared.HdmaChannelState.{HdmaChannelState}
 use Rattle.state.specs.declared.Machine.{Machine}
 use Rattle.transfer.specs.Pattern.{offsetOf, bAddress}
 
@@ -34,6 +34,7 @@ pub record Corner : Type 0 where
   pub given : List ℕ
   pub listed : List ℕ
 
+-- both put together
 abbrev pub corner : List ℕ → List ℕ → Corner
 corner given listed = record { given = given; listed = listed }
 
@@ -49,27 +50,33 @@ bankWritten v = bank (writeIo powerOn 0x2183 v .wmadd .bank)
 abbrev pub step : WmAddBank → List ℕ
 step b = let w = stepped (record { bank = b; addr = 0xFFFF }) in bank (w .bank) ∷ w .addr ∷ []
 
--- a line counter after a transferring line, and whether the next line transfers
-abbrev pub line : ℕ → List ℕ
-line n =
-    let d = withChannels powerOnDma (record { counter = n; transfer = true; finished = false } ∷ []) in
-    let h = hdmaAt (counted d 0 0) 0 in
-    h .counter ∷ boolByte (h .transfer) ∷ []
-
 -- the open bus is $FF; controller port 2's data is 0, and port 1's is 1
 abbrev pub floating : Io
 floating =
     withIo-openbus (withIo-pads powerOn (withPads-port1 (powerOn .pads) (record { connected = true; latch = false; buttons = 0; shift = 0x8000 }))) 0xFF
 
--- an indirect channel in mode 4, whose table in the ROM begins with counter 1 and an address
+-- channel 0 with these registers and this HDMA state, after a line; the ROM from $8000 up is its table
+abbrev pub lineOf : DmaChannel → HdmaChannelState → List ℕ → DmaWorld
+lineOf c h table =
+    let w = world (opened (withIo-channels powerOn (set (powerOn .channels) 0 c))) [] [] in
+    lineChannel table (at w (withChannels powerOnDma (set (powerOnDma .channels) 0 h))) 0
+
+-- a direct channel in mode 0, at its table's start
+abbrev pub direct : DmaChannel
+direct = record { dmap = 0x00; bbad = 0x18; a1t = 0x8000; a1b = 0; das = 0; dasb = 0; a2a = 0x8000; nltr = 0; unused = 0 }
+
+-- an indirect channel in mode 4, at its table's start
 abbrev pub indirect : DmaChannel
 indirect = record { dmap = 0x44; bbad = 0x18; a1t = 0x8000; a1b = 0; das = 0; dasb = 0x7E; a2a = 0x8000; nltr = 0; unused = 0 }
 
--- the machine after a line of that channel
-abbrev pub reloading : DmaWorld
-reloading =
-    let w = world (opened (withIo-channels powerOn (set (powerOn .channels) 0 indirect))) [] [] in
-    lineChannel (1 ∷ 0 ∷ 0 ∷ []) (at w (withChannels powerOnDma (noHdma ∷ []))) 0
+-- after a line of the direct channel with this counter and this table: the byte that the line moved, its last access; the counter; whether
+-- the next line transfers
+abbrev pub afterLine : ℕ → List ℕ → List ℕ
+afterLine n table =
+    let m = lineOf direct (record { counter = n; transfer = true; finished = false }) table in
+    let log = m .world .core .log in
+    let h = hdmaAt (m .dma) 0 in
+    getD (log .items) (log .count - 1) noAccess .byte ∷ h .counter ∷ boolByte (h .transfer) ∷ []
 
 -- HDMAEN has one channel, and it has finished
 abbrev pub finishedOne : Machine
@@ -98,11 +105,11 @@ corners =
     ∷ corner (bankWritten 0xFE ∷ bankWritten 1 ∷ []) (0x7E ∷ 0x7F ∷ [])  -- (e)
     ∷ corner (offsetOf 5 0 ∷ offsetOf 5 1 ∷ offsetOf 5 2 ∷ offsetOf 5 3 ∷ []) (0 ∷ 1 ∷ 0 ∷ 1 ∷ [])  -- (f)
     ∷ corner (bAddress 0xFF 1 ∷ []) (0x2100 ∷ [])  -- (f)
-    ∷ corner (line 1) (0 ∷ 1 ∷ [])  -- (g)
-    ∷ corner (line 2) (1 ∷ 0 ∷ [])  -- (g)
-    ∷ corner (line 0x81) (0x80 ∷ 1 ∷ [])  -- (g)
-    ∷ corner (line 0x80) (0x7F ∷ 1 ∷ [])  -- (g)
+    ∷ corner (afterLine 1 (0x5A ∷ [])) (0x5A ∷ 0 ∷ 1 ∷ [])  -- (g)
+    ∷ corner (afterLine 2 (0x5A ∷ [])) (0x5A ∷ 1 ∷ 0 ∷ [])  -- (g)
+    ∷ corner (afterLine 0x81 (0x5A ∷ [])) (0x5A ∷ 0x80 ∷ 1 ∷ [])  -- (g)
+    ∷ corner (afterLine 0 (0x80 ∷ 0x5A ∷ [])) (0x5A ∷ 0x7F ∷ 1 ∷ [])  -- (g), a $80 just read
     ∷ corner (readByte floating 0x4017 ∷ readByte floating 0x4016 ∷ []) (0xFC ∷ 0xFD ∷ [])  -- (h)
-    ∷ corner ((reloading .dma .wait + 1) ∷ []) (56 ∷ [])  -- (i)
+    ∷ corner ((lineOf indirect noHdma (1 ∷ 0 ∷ 0 ∷ []) .dma .wait + 1) ∷ []) (56 ∷ [])  -- (i)
     ∷ corner (held 40 true finishedOne ∷ []) (20 ∷ [])  -- (j)
     ∷ []

@@ -39,9 +39,11 @@ pub record Held : Type 0 where
   pub after : DmaWorld
   pub held : Bool
 
+-- these of the code's values
 abbrev pub cycling : Cycled → List ℕ → List ℕ → Held
 cycling c l h = record { after = dmaWorld (c .after) l h; held = c .held }
 
+-- a cycle that held it
 abbrev pub holding : DmaWorld → Held
 holding m = record { after = m; held = true }
 

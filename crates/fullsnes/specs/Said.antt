@@ -14,6 +14,7 @@ use Rattle.transfer.specs.Bits.{down}
 
 -- ---- transfer unit patterns, by mode
 
+-- which port each byte of a unit goes to, modes 0 to 7
 abbrev pub patterns : List (List ℕ)
 patterns =
     (0 ∷ [])
@@ -32,6 +33,7 @@ patternOf dmap = getD patterns (dmap % 8) []
 
 -- ---- DAS: the byte count, 0 for 65,536
 
+-- how many bytes a DAS stands for
 abbrev pub bytesOf : ℕ → ℕ
 bytesOf das = pick (eqb das 0) 65536 das
 
@@ -48,10 +50,11 @@ pub record Lasts (das n : ℕ) : Type 0 where
 
 -- ---- an entry of an HDMA table: $01-$7F transfers on the first of so many lines, $81-$FF on each of so many less $80
 
--- how many lines an entry lasts, and whether it transfers on line i of them
+-- how many lines an entry lasts
 abbrev pub linesOf : ℕ → ℕ
 linesOf c = c % 128
 
+-- whether it transfers on line i of them
 abbrev pub transfersOn : ℕ → ℕ → Bool
 transfersOn c i = pick (ltb c 128) (eqb i 0) true
 

@@ -44,6 +44,7 @@ pub record DmaWorld : Type 0 where
 abbrev pub dmaWorld : DmaCore → List ℕ → List ℕ → DmaWorld
 dmaWorld m l h = record { world = world (m .core) l h; dma = m .dma }
 
+-- a world and a DMA unit put together
 abbrev pub at : World → Dma → DmaWorld
 at w d = record { world = w; dma = d }
 

@@ -24,6 +24,7 @@ pub record Reloaded : Type 0 where
   pub wait : ℕ
   pub stop : Bool
 
+-- these of the code's values
 abbrev pub reloading : Reload → List ℕ → List ℕ → Reloaded
 reloading r l h = record { after = dmaWorld (r .after) l h; wait = r .wait; stop = r .stop }
 

@@ -17,9 +17,10 @@ clearBit m ch = bitAnd m (255 - 1 * 2 ^ (ch % 8) % 2 ^ 8)
 abbrev pub flagOf : ℕ → ℕ → Bool
 flagOf x mask = not (eqb (bitAnd x mask) 0)
 
--- one down and one up, with wrap at a size
+-- one down, with wrap at a size
 abbrev pub down : ℕ → ℕ → ℕ
 down size x = (x + (size - 1)) % size
 
+-- one up, with wrap at a size
 abbrev pub up : ℕ → ℕ → ℕ
 up size x = (x + 1) % size

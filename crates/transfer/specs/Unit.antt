@@ -37,6 +37,7 @@ pub record SentUnit : Type 0 where
   pub world : World
   pub bytes : ℕ
 
+-- these of the code's values
 abbrev pub sending : Sent → List ℕ → List ℕ → SentUnit
 sending s l h = record { world = world (s .core) l h; bytes = s .bytes }
 

@@ -174,7 +174,7 @@ module _ (x : List ℕ) (w : WmAddress) (v a0 a1 a2 a3 : ℕ) (nmi : Bool) (ch u
   lays (suc (suc (suc (suc (suc (suc (suc (suc i)))))))) h = absurd (omega (arith, h))
 
 -- a channel of an image
-channel-in : (x : List ℕ) (i : ℕ) → i < 8 → getD (channelsAt x) i noChannel ≡ channelAt x (98 + 12 * i)
+channel-in : (x : List ℕ) (i : ℕ) → i < 8 → getD (channelsAt x) i noChannel ≡ channelAt x i
 unfolding channelsAt
 channel-in x zero h = refl
 channel-in x (suc zero) h = refl
@@ -217,7 +217,7 @@ module _ (s : List ℕ) (fit : Bytes s) (ok : entryOk (readSlot entrySize 0 s) �
   abbrev c : DmaChannel
   c = getD (m .io .channels) nth noChannel
 
-  channel-is : c ≡ channelAt e (baseAt e)
+  channel-is : c ≡ channelAt e nth
   unfolding machineAt ioAt
   channel-is = channel-in e nth (omega arith)
 

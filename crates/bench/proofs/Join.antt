@@ -11,7 +11,8 @@ use Rattle.bus.specs.World.{World, Reading, readAt, writeAt}
 use Rattle.bus.specs.declared.access.Core.{Core}
 use Rattle.bus.specs.declared.access.Log.{Log}
 use Rattle.entry.specs.Entry.{decodeAt}
-use Rattle.entry.specs.declared.Entry.{Entry as Newest}
+use Rattle.entry.specs.declared.Decoded.{Decoded}
+use Rattle.layout.specs.Layout.{capacity}
 use Rattle.machine.specs.Cycle.{Turned, machineAfter, cycled}
 use Rattle.machine.specs.declared.event.Event.{Event}
 use Rattle.state.specs.declared.Machine.{Machine}
@@ -20,7 +21,7 @@ use Rattle.wram.specs.Olds.{putBack}
 use Rattle.bench.specs.Calls.{Desk, lentOf, eventOf, CycleOut, cycleCall, ReadOut, readCall, WriteOut, writeCall, PlainOut, Hosting, hosted, onBanks, padCall, plugCall, answerCall, backCall, emptyBench, freshCall}
 use Rattle.bench.specs.Host.{withIo, padSet, plugSet, answerSet}
 use Rattle.bench.specs.Refusal.{cycleNumber, portNumber, addressNumber, backNumber, freshNumber}
-use Rattle.bench.specs.Ring.{before, capacity, bench, Noted, noted}
+use Rattle.bench.specs.Ring.{before, bench, Noted, noted}
 use Rattle.bench.specs.declared.Bench.{Bench}
 use Rattle.bench.specs.declared.operate.Answer.{Answer}
 
@@ -74,7 +75,7 @@ module _ (rom : List ℕ) (d : Desk) {lent : ℕ} (p : lent ≡ lentOf d (length
     unfolding answerCall
     answer-by addr byte a b = cc
 
-module _ (d : Desk) {lent slot n : ℕ} {e : Newest} (p : lent ≡ lentOf d 0) (q : slot ≡ before (capacity (d .bench)) (d .bench .slot)) (r : e ≡ decodeAt (d .entries) slot)
+module _ (d : Desk) {lent cap slot n : ℕ} {e : Decoded} (p : lent ≡ lentOf d 0) (c : cap ≡ capacity (d .bench .length)) (q : slot ≡ before cap (d .bench .slot)) (r : e ≡ decodeAt (d .entries) slot)
     (s : n ≡ backNumber lent (d .bench .kept) (e .ok)) where
   pub back-refused : eqb n 0 ≡ false → _≡_ {A = PlainOut} (record { number = n; desk = d }) (backCall d)
   unfolding backCall

@@ -12,7 +12,8 @@ use Rattle.bus.specs.Route.{costOf}
 use Rattle.bus.specs.World.{World, Reading, readAt, writeAt}
 use Rattle.bus.specs.declared.access.Log.{Log}
 use Rattle.entry.specs.Entry.{decodeAt}
-use Rattle.entry.specs.declared.Entry.{Entry as Newest}
+use Rattle.entry.specs.declared.Decoded.{Decoded}
+use Rattle.layout.specs.Layout.{capacity}
 use Rattle.machine.specs.Cycle.{Turned, machineAfter, cycled}
 use Rattle.machine.specs.PowerOn.{powerOnMachine}
 use Rattle.machine.specs.declared.cycle.Turn.{Turn}
@@ -24,7 +25,7 @@ use Rattle.wram.specs.Olds.{noOlds, putBack}
 use Rattle.wram.specs.declared.Olds.{Olds}
 use Rattle.bench.specs.Host.{withIo, padSet, plugSet, answerSet}
 use Rattle.bench.specs.Refusal.{lentNumber, cycleNumber, portNumber, addressNumber, backNumber, freshNumber}
-use Rattle.bench.specs.Ring.{before, capacity, bench, Noted, noting, noted}
+use Rattle.bench.specs.Ring.{before, bench, Noted, noting, noted}
 use Rattle.bench.specs.declared.Bench.{Bench}
 use Rattle.bench.specs.declared.operate.Answer.{Answer}
 use Rattle.bench.specs.declared.operate.CycleAnswer.{CycleAnswer}
@@ -181,7 +182,7 @@ answerCall rom d addr byte = hostCall d (addressNumber (lentOf d (length rom)) a
 -- ---- back and fresh
 
 -- the newest entry restores machine and old bytes; no record byte is written
-abbrev pub restored : Desk → Newest → ℕ → Desk
+abbrev pub restored : Desk → Decoded → ℕ → Desk
 restored d e slot =
     record {
       bench = bench (e .machine) slot (d .bench .kept - 1) (d .bench .length);
@@ -192,7 +193,7 @@ restored d e slot =
 -- the newest entry stands in the slot before the next one
 unfoldable pub backCall : Desk → PlainOut
 backCall d =
-    let slot = before (capacity (d .bench)) (d .bench .slot) in
+    let slot = before (capacity (d .bench .length)) (d .bench .slot) in
     let e = decodeAt (d .entries) slot in
     let n = backNumber (lentOf d 0) (d .bench .kept) (e .ok) in
     pick (eqb n 0) (record { number = 0; desk = restored d e slot }) (record { number = n; desk = d })

@@ -3,17 +3,17 @@ use Prim.Native.Nat.{ℕ, _%_}
 use mathlib.Core.Bool.{Bool, not, _||_}
 use lib.Dec.{eqb, ltb, leb}
 use Rattle.common.specs.Pick.{pick}
+use Rattle.layout.specs.Layout.{entrySize, capacity}
 use Rattle.ranges.specs.Machine.{machineOk}
-use Rattle.bench.specs.Ring.{capacity}
 use Rattle.bench.specs.declared.Bench.{Bench}
 
 -- 1: a work RAM slice is not 65,536 bytes
 abbrev pub banksOff : ℕ → ℕ → Bool
 banksOff low high = not (eqb low 65536) || not (eqb high 65536)
 
--- 2: record length is 0, no multiple of 256, or not fresh's length
+-- 2: record length is 0, no multiple of an entry's size, or not fresh's length
 abbrev pub lengthOff : ℕ → Bool
-lengthOff length = eqb length 0 || not (eqb (length % 256) 0)
+lengthOff length = eqb length 0 || not (eqb (length % entrySize) 0)
 
 abbrev pub recordOff : ℕ → ℕ → Bool
 recordOff length fresh = lengthOff length || not (eqb length fresh)
@@ -24,7 +24,7 @@ romOff rom = ltb 4194304 rom
 
 -- 4: machine breaks the ranges, next slot is not under the capacity, or kept is over it
 abbrev pub benchOff : Bench → Bool
-benchOff b = not (machineOk (b .machine)) || leb (capacity b) (b .slot) || ltb (capacity b) (b .kept)
+benchOff b = not (machineOk (b .machine)) || leb (capacity (b .length)) (b .slot) || ltb (capacity (b .length)) (b .kept)
 
 -- 6, answer: address outside $2134-$213F and $2140-$2143
 abbrev pub addressOff : ℕ → Bool

@@ -9,13 +9,14 @@ use crate::refusal::lent_number;
 use crate::ring::less_kept;
 use crate::ring::slot_before;
 use entry::read_entry;
+use layout::capacity;
 use wram::put_back;
 
 pub fn back(b: Bench, low: &mut [u8], high: &mut [u8], entries: &mut [u8]) -> Answer
     ensures { λ r. ⌜ plainOut r (now (low .exit)) (now (high .exit)) (now (entries .exit)) ≡ backCall (desk b (now (low .entry)) (now (high .entry)) (now (entries .entry))) ⌝ }
 {
     let lent = lent_number(b, low.len(), high.len(), entries.len(), 0);
-    let cap = b.length / 256;
+    let cap = capacity(b.length);
     let slot = slot_before(cap, b.slot);
     let newest = read_entry(entries, slot);
     let n = back_number(lent, b.kept, newest.ok);

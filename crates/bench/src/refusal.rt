@@ -2,6 +2,8 @@
 ghost use mathlib.Core.Path.{_≡_};
 ghost use Rattle.bench.specs.Refusal.{banksOff, recordOff, romOff, benchOff, lentNumber, alsoOf, cycleNumber, portNumber, addressNumber, backNumber, freshNumber, lookNumber};
 use crate::Bench;
+use layout::ENTRY_SIZE;
+use layout::capacity;
 use ranges::machine::machine_ok;
 
 // 1: a work RAM slice is not 65,536 bytes.
@@ -11,11 +13,11 @@ pub fn banks_off(low: usize, high: usize) -> bool
     (low != 65536) | (high != 65536)
 }
 
-// 2: the record's length is 0, no multiple of 256, or not fresh's.
+// 2: the record's length is 0, no multiple of an entry's size, or not fresh's.
 pub fn record_off(length: usize, fresh: usize) -> bool
     ensures { λ r. ⌜ r ≡ recordOff length fresh ⌝ }
 {
-    (length == 0) | (length % 256 != 0) | (length != fresh)
+    (length == 0) | (length % ENTRY_SIZE != 0) | (length != fresh)
 }
 
 // 3: the ROM is too long.
@@ -31,7 +33,7 @@ fn bench_off(b: Bench) -> bool
 {
     let m = b.machine;
     let ok = machine_ok(m);
-    let cap = b.length / 256;
+    let cap = capacity(b.length);
     !ok | (cap <= b.slot) | (cap < b.kept)
 }
 
@@ -111,7 +113,7 @@ pub fn back_number(lent: u8, kept: usize, ok: bool) -> u8
 pub fn fresh_number(length: usize, bitcycles: u16) -> u8
     ensures { λ r. ⌜ r ≡ freshNumber length bitcycles ⌝ }
 {
-    if (length == 0) | (length % 256 != 0) {
+    if (length == 0) | (length % ENTRY_SIZE != 0) {
         return 2;
     }
     if (bitcycles == 0) | (4096 < bitcycles) {

@@ -5,6 +5,7 @@ ghost use denote.Ref.{now};
 ghost use Rattle.bench.specs.Ring.{after, before, noting, noted};
 use crate::Bench;
 use entry::write_entry;
+use layout::capacity;
 use state::Machine;
 use wram::Olds;
 
@@ -50,7 +51,7 @@ pub fn note(b: Bench, entries: &mut [u8], next: Machine, olds: Olds) -> Bench
     ensures { λ r. ⌜ noting r (now (entries .exit)) ≡ noted b (now (entries .entry)) next olds ⌝ }
 {
     let m = b.machine;
-    let cap = b.length / 256;
+    let cap = capacity(b.length);
     write_entry(entries, b.slot, m, olds);
     let slot = slot_after(cap, b.slot);
     let kept = more_kept(cap, b.kept);

@@ -10,9 +10,10 @@ use lib.ListN.{length}
 use Rattle.bench.specs.Calls.{Desk, lentOf, eventOf, cycleDone, cycleCall, readDone, readCall, costAt, worldOf, bused, writeCall, PlainOut, recorded, padCall, plugCall, answerCall, hosted, restored, backCall}
 use Rattle.bench.specs.Host.{padSet, plugSet, answerSet}
 use Rattle.bench.specs.Refusal.{cycleNumber, portNumber, addressNumber, backNumber}
-use Rattle.bench.specs.Ring.{before, capacity}
+use Rattle.bench.specs.Ring.{before}
 use Rattle.bus.specs.World.{readAt, writeAt}
 use Rattle.entry.specs.Entry.{decodeAt}
+use Rattle.layout.specs.Layout.{capacity}
 use Rattle.machine.specs.Cycle.{cycled}
 use Rattle.state.specs.declared.Machine.{Machine}
 use Rattle.wram.specs.Olds.{noOlds}
@@ -52,7 +53,7 @@ module _ (rom : List ℕ) (d : Desk) (p : lentOf d (length rom) ≡ 0) where
 
 module _ (d : Desk) (p : lentOf d 0 ≡ 0) where
   abbrev newest : ℕ
-  newest = before (capacity (d .bench)) (d .bench .slot)
+  newest = before (capacity (d .bench .length)) (d .bench .slot)
 
   pub back-accepted : d .bench .kept ≢ 0 → decodeAt (d .entries) newest .ok ≡ true
       → backCall d ≡ record { number = 0; desk = restored d (decodeAt (d .entries) newest) newest }

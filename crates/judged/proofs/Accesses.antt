@@ -17,7 +17,7 @@ use Rattle.dma.specs.Cycle.{startPending, dueOf, acted, actBy, updated}
 use Rattle.dma.specs.General.{afterByte, stepFrom, dmaStep}
 use Rattle.state.specs.Hdma.{noHdma}
 use Rattle.judged.proofs.Accepted.{cycle-accepted}
-use Rattle.judged.specs.Tried.{Sizes}
+use Rattle.judged.specs.Tried.{twoSlots, Sizes}
 use Rattle.machine.specs.Cycle.{armed, cycled}
 use Rattle.machine.specs.Event.{pressed, evented, settled, timed}
 use Rattle.ranges.specs.Machine.{machineOk}
@@ -42,7 +42,7 @@ unfolding moving machineOk powerOn
 moving-ok = refl
 
 abbrev pub busy : List ℕ → List ℕ → List ℕ → Desk
-busy l h e = desk (bench moving 0 0 512) l h e
+busy l h e = desk (bench moving 0 0 twoSlots) l h e
 
 two : (l h : List ℕ) → cycled [] moving l h (eventOf 0) false false .after .world .core .log .count ≡ 2
 unfolding moving powerOn cycled updated startPending dueOf acted actBy armed mdmaenOf hdmaenOf timed settled evented pressed opened autoStep dmaStep stepFrom transferByte moved tripOf stepA1t afterByte withChannel withMdmaen channelOf readAt writeAt pushAccess ioWritten registerRead routeOf systemRoute offsetOf

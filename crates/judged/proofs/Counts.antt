@@ -7,7 +7,7 @@ use mathlib.Core.Logic.{_≢_}
 use mathlib.Core.Path.{_≡_, ap, _∙_}
 use lib.ListN.{length}
 use Rattle.bench.specs.Calls.{Desk, lentOf, eventOf, CycleOut, cycleOut, cycleDone, cycleCall, ReadOut, readOut, readCall, WriteOut, writeOut, writeCall, PlainOut, plainOut, padCall, plugCall, answerCall, backCall}
-use Rattle.bench.specs.Ring.{after, before, capacity, noted}
+use Rattle.bench.specs.Ring.{after, before, noted}
 use Rattle.bench.specs.declared.Bench.{Bench}
 use Rattle.bench.specs.declared.operate.Answer.{Answer}
 use Rattle.bench.specs.declared.operate.CycleAnswer.{CycleAnswer}
@@ -18,6 +18,7 @@ use Rattle.bus.specs.declared.access.Log.{Log}
 use Rattle.common.specs.Fill.{Filled}
 use Rattle.entry.specs.Entry.{decodeAt}
 use Rattle.judged.proofs.Accepted.{cycle-accepted, read-accepted, write-accepted, pad-accepted, plug-accepted, answer-accepted, back-accepted}
+use Rattle.layout.specs.Layout.{capacity}
 use Rattle.machine.proofs.Adds.{cycle-recorded}
 use Rattle.machine.specs.Cycle.{Turned, cycled}
 use Rattle.state.specs.declared.Machine.{Machine}
@@ -25,8 +26,8 @@ use Rattle.wram.specs.declared.Olds.{Olds}
 
 -- the counts beside the machine after one more entry
 pub record Counted (d : Desk) (b : Bench) : Type 0 where
-  pub kept : b .kept ≡ min (d .bench .kept + 1) (capacity (d .bench))
-  pub slot : b .slot ≡ after (capacity (d .bench)) (d .bench .slot)
+  pub kept : b .kept ≡ min (d .bench .kept + 1) (capacity (d .bench .length))
+  pub slot : b .slot ≡ after (capacity (d .bench .length)) (d .bench .slot)
   pub length : b .length ≡ d .bench .length
 
 counted : (d : Desk) (next : Machine) (olds : Olds) {b : Bench} → b ≡ noted (d .bench) (d .entries) next olds .bench → Counted d b
@@ -75,10 +76,10 @@ module _ (rom : List ℕ) (d : Desk) (p : lentOf d (length rom) ≡ 0) {l h e : 
 -- the counts after one entry less
 pub record Uncounted (d : Desk) (b : Bench) : Type 0 where
   pub kept : b .kept ≡ d .bench .kept - 1
-  pub slot : b .slot ≡ before (capacity (d .bench)) (d .bench .slot)
+  pub slot : b .slot ≡ before (capacity (d .bench .length)) (d .bench .slot)
   pub length : b .length ≡ d .bench .length
 
-pub back-counted : (d : Desk) → lentOf d 0 ≡ 0 → d .bench .kept ≢ 0 → decodeAt (d .entries) (before (capacity (d .bench)) (d .bench .slot)) .ok ≡ true
+pub back-counted : (d : Desk) → lentOf d 0 ≡ 0 → d .bench .kept ≢ 0 → decodeAt (d .entries) (before (capacity (d .bench .length)) (d .bench .slot)) .ok ≡ true
     → {r : Answer} {l h e : List ℕ} → plainOut r l h e ≡ backCall d → Uncounted d (r .bench)
 back-counted d p q s k =
     let x = k ∙ back-accepted d p q s in record { kept = λ i. x i .desk .bench .kept; slot = λ i. x i .desk .bench .slot; length = λ i. x i .desk .bench .length }

@@ -4,7 +4,7 @@ use mathlib.Core.Bool.{true, false}
 use mathlib.Core.List.{List, []}
 use mathlib.Core.Path.{_≡_, refl, ap, _∙_}
 use native.Mathlib.Omega.{arith}
-use lib.ListN.{getD}
+use lib.ListN.{length, getD}
 use Rattle.bench.specs.Calls.{Desk, writeOut, writeCall, worldOf, plainOut, padCall}
 use Rattle.bench.specs.Host.{withIo, padSet}
 use Rattle.bench.specs.Ring.{noted}
@@ -16,12 +16,11 @@ use Rattle.bus.specs.World.{writeAt}
 use Rattle.common.proofs.FillLaws.{filled-grows, filled-none}
 use Rattle.entry.proofs.Entries.{read-written}
 use Rattle.entry.specs.Entry.{decodeAt}
-use Rattle.entry.specs.Slot.{capacity}
-use Rattle.entry.specs.declared.Entry.{Entry}
-use Rattle.image.specs.Encode.{entrySize}
+use Rattle.entry.specs.declared.Decoded.{Decoded}
 use Rattle.judged.proofs.Accepted.{write-accepted, pad-accepted}
 use Rattle.judged.proofs.Start.{start-ok, start-fits, start-lent}
 use Rattle.judged.specs.Tried.{Sizes, start}
+use Rattle.layout.specs.Layout.{capacity}
 use Rattle.machine.specs.PowerOn.{powerOnMachine}
 use Rattle.ranges.specs.Machine.{machineOk}
 use Rattle.state.specs.Fit.{FitMachine}
@@ -36,7 +35,7 @@ use Rattle.wram.specs.declared.Olds.{Olds}
 use Rattle.wram.specs.declared.Place.the-variants.{Bank7E}
 
 module _ (d : Desk) (olds : Olds) (f : FitMachine (d .bench .machine)) (p : machineOk (d .bench .machine) ≡ true) (g : OldsOk olds)
-    (s : d .bench .slot < capacity entrySize (d .entries)) where
+    (s : d .bench .slot < capacity (length (d .entries))) where
   -- the entry at the slot that was next
   pub entry-tied : (next : Machine) {e : List ℕ} → e ≡ noted (d .bench) (d .entries) next olds .entries
       → decodeAt e (d .bench .slot) ≡ record { ok = true; machine = d .bench .machine; olds = olds }
@@ -44,7 +43,7 @@ module _ (d : Desk) (olds : Olds) (f : FitMachine (d .bench .machine)) (p : mach
   entry-tied next k = ap (λ (x : List ℕ). decodeAt x (d .bench .slot)) k ∙ read-written (d .bench .machine) olds f p g (d .entries) (d .bench .slot) s
 
 module _ (l h e : List ℕ) (s : Sizes l h e) where
-  room : 0 < capacity entrySize e
+  room : 0 < capacity (length e)
   room = rw (s .entries) (omega arith)
 
   -- a pad call overwrites nothing
@@ -83,4 +82,4 @@ module _ (l h e : List ℕ) (s : Sizes l h e) where
 
     pub write-olds-count : (byte : ℕ) {r : WriteAnswer} {l′ h′ e′ : List ℕ} → writeOut r l′ h′ e′ ≡ writeCall [] (start l h e) 0x7E 0 byte
         → decodeAt e′ 0 .olds .count ≡ 1
-    write-olds-count byte k = ap (λ (x : Entry). x .olds .count) (write-olds byte k) ∙ one-old
+    write-olds-count byte k = ap (λ (x : Decoded). x .olds .count) (write-olds byte k) ∙ one-old

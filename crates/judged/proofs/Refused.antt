@@ -8,10 +8,11 @@ use lib.Dec.{eqb}
 use lib.ListN.{length}
 use Rattle.bench.specs.Calls.{Desk, lentOf, CycleOut, cycleRefused, cycleCall, ReadOut, readCall, WriteOut, writeCall, PlainOut, Hosting, hosted, onBanks, padCall, plugCall, answerCall, backCall, emptyBench, freshCall}
 use Rattle.bench.specs.Refusal.{cycleNumber, portNumber, addressNumber, backNumber, freshNumber}
-use Rattle.bench.specs.Ring.{before, capacity}
+use Rattle.bench.specs.Ring.{before}
 use Rattle.bench.specs.declared.operate.Answer.{Answer}
 use Rattle.common.proofs.TableLaws.{pick-elim}
 use Rattle.entry.specs.Entry.{decodeAt}
+use Rattle.layout.specs.Layout.{capacity}
 
 abbrev pub PlainLeaves : Desk → PlainOut → Type 0
 PlainLeaves d o = o .number ≢ 0 → o ≡ record { number = o .number; desk = d }
@@ -53,7 +54,7 @@ module _ (rom : List ℕ) (d : Desk) where
 pub back-leaves : (d : Desk) → PlainLeaves d (backCall d)
 unfolding backCall
 back-leaves d =
-    let e = decodeAt (d .entries) (before (capacity (d .bench)) (d .bench .slot)) in
+    let e = decodeAt (d .entries) (before (capacity (d .bench .length)) (d .bench .slot)) in
     pick-elim (PlainLeaves d) (eqb (backNumber (lentOf d 0) (d .bench .kept) (e .ok)) 0) (λ q. absurd (q refl)) (λ q. refl)
 
 -- a refused fresh: power-on values with bit cycles 1 and record length 0

@@ -10,7 +10,7 @@ use lib.ListN.{length}
 use Rattle.bench.specs.Calls.{Desk, eventOf, CycleOut, cycleDone}
 use Rattle.bench.specs.Ring.{noted}
 use Rattle.judged.proofs.Accepted.{cycle-accepted}
-use Rattle.judged.specs.Tried.{Sizes, start, Run}
+use Rattle.judged.specs.Tried.{twoSlots, Sizes, start, Run}
 use Rattle.machine.proofs.FitLaws.{power-on-fits}
 use Rattle.machine.proofs.Ranges.{power-on-ok}
 use Rattle.machine.specs.Cycle.{Turned, cycled}
@@ -20,7 +20,7 @@ use Rattle.common.specs.Width.{Bytes}
 
 -- a desk that no operation is refused on, with a record of two slots
 abbrev pub Ready : Desk → Type 0
-Ready d = SoundDesk 512 d
+Ready d = SoundDesk twoSlots d
 
 abbrev clockOf : Desk → ℕ
 clockOf d = d .bench .machine .board .clock
@@ -49,7 +49,7 @@ module _ (rom : List ℕ) (f : Bytes rom) (short : length rom ≤ 4194304) where
 
     cycle-ready : event < 256 → Ready d → Ready (cycleDone d turned .desk)
     unfolding obeyed
-    cycle-ready t r = op-keeps rom f 512 d r (cycle event line timer) t
+    cycle-ready t r = op-keeps rom f twoSlots d r (cycle event line timer) t
 
     cycle-clock : clockOf d + 1 < 2 ^ 64 → clockOf (cycleDone d turned .desk) ≡ clockOf d + 1
     unfolding noted cycled
@@ -60,7 +60,7 @@ module _ (rom : List ℕ) (f : Bytes rom) (short : length rom ≤ 4194304) where
   module _ (event : ℕ → ℕ) (line timer : ℕ → Bool) (d : ℕ → Desk) (run : Run rom event line timer d) (known : (n : ℕ) → event n ≤ 4) (first : Ready (d 0)) where
     step : (n : ℕ) → Ready (d n) → clockOf (d n) + 1 < 2 ^ 64 → Ready (d (suc n)) × (clockOf (d (suc n)) ≡ clockOf (d n) + 1)
     step n r q =
-        let e = run n ∙ ap (λ (o : CycleOut). o .desk) (cycle-accepted rom (d n) (lent-sound 512 (length rom) (d n) (omega arith) refl short r) (event n) (line n) (timer n) (known n) (omega arith)) in
+        let e = run n ∙ ap (λ (o : CycleOut). o .desk) (cycle-accepted rom (d n) (lent-sound twoSlots (length rom) (d n) (omega arith) refl short r) (event n) (line n) (timer n) (known n) (omega arith)) in
         (subst⁻¹ Ready e (cycle-ready (event n) (line n) (timer n) (d n) (omega (arith, known n)) r), ap clockOf e ∙ cycle-clock (event n) (line n) (timer n) (d n) q)
 
     -- after n cycles the clock stands n higher, and the next is accepted too

@@ -24,6 +24,7 @@ use Rattle.judged.proofs.Counts.{read-counted, write-counted}
 use Rattle.judged.proofs.Rejected.{true-false, start-cycle, start-read, start-write, start-pad, start-plug, start-answer}
 use Rattle.judged.proofs.Start.{start-lent}
 use Rattle.judged.specs.Tried.{Sizes, start}
+use Rattle.layout.specs.Layout.{entrySize}
 use Rattle.machine.specs.Cycle.{armed, cycled}
 use Rattle.machine.specs.Event.{pressed, evented, settled, timed}
 use Rattle.machine.specs.PowerOn.{powerOnDma, powerOnMachine}
@@ -33,17 +34,17 @@ use Rattle.signals.specs.AutoJoypad.{autoStep}
 -- ---- fresh
 
 -- bit cycles 4,097 accepted
-pub fresh-4097 : {r : Answer} → r ≡ freshCall 256 4097 → r .number ≢ 0
+pub fresh-4097 : {r : Answer} → r ≡ freshCall entrySize 4097 → r .number ≢ 0
 unfolding freshCall freshNumber
 fresh-4097 k z = omega (arith, sym (ap (λ (o : Answer). o .number) k) ∙ z)
 
 -- the shortest record with the least bit cycles refused
-pub fresh-256 : {r : Answer} → r ≡ freshCall 256 1 → r .number ≢ 2
+pub fresh-256 : {r : Answer} → r ≡ freshCall entrySize 1 → r .number ≢ 2
 unfolding freshCall freshNumber
 fresh-256 k z = omega (arith, sym (ap (λ (o : Answer). o .number) k) ∙ z)
 
 -- a refused fresh that keeps the bit cycles given
-pub fresh-kept-bits : {r : Answer} → r ≡ freshCall 256 4097 → r .bench .machine .board .bitcycles ≢ 4097
+pub fresh-kept-bits : {r : Answer} → r ≡ freshCall entrySize 4097 → r .bench .machine .board .bitcycles ≢ 4097
 unfolding freshCall freshNumber powerOnMachine
 fresh-kept-bits k z = omega (arith, sym (ap (λ (o : Answer). o .bench .machine .board .bitcycles) k) ∙ z)
 

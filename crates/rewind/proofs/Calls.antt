@@ -1,5 +1,5 @@
 -- The public calls on a sound desk: what an operation leaves and what a back step leaves, and the numbers that can come.
-use Prim.Native.Nat.{ℕ, suc, _/_, _%_, _≤_, _<_}
+use Prim.Native.Nat.{ℕ, suc, _%_, _≤_, _<_}
 use mathlib.Core.Bool.{true}
 use mathlib.Core.List.{List}
 use mathlib.Core.Path.{_≡_, refl, sym, ap, _∙_}
@@ -10,13 +10,14 @@ use lib.ListN.{length}
 use Rattle.bench.specs.Calls.{Desk, lentOf, recorded, eventOf, CycleOut, cycleDone, cycleRefused, cycleCall, worldOf, costAt, bused, ReadOut, readDone, readCall, WriteOut, writeCall, Hosting, hosted, onBanks, padCall, plugCall, answerCall, restored, backCall}
 use Rattle.bench.specs.Host.{padSet, plugSet, answerSet}
 use Rattle.bench.specs.Refusal.{addressOff, lentNumber, cycleNumber, portNumber, addressNumber, backNumber}
-use Rattle.bench.specs.Ring.{before, capacity, noting, noted}
+use Rattle.bench.specs.Ring.{before, noting, noted}
 use Rattle.bus.specs.World.{readAt, writeAt}
 use Rattle.common.proofs.TableLaws.{pick-elim, pick-case, pick-map}
 use Rattle.common.specs.Pick.{pick}
 use Rattle.entry.proofs.Entries.{length-written}
 use Rattle.entry.specs.Entry.{decodeAt}
-use Rattle.entry.specs.declared.Entry.{Entry}
+use Rattle.entry.specs.declared.Decoded.{Decoded}
+use Rattle.layout.specs.Layout.{entrySize, capacity}
 use Rattle.machine.specs.Cycle.{cycled}
 use Rattle.ranges.proofs.MachineLaws.{passes}
 use Rattle.rewind.proofs.Good.{Good, lawful}
@@ -47,11 +48,11 @@ pub record SoundDesk (len : ℕ) (d : Desk) : Type 0 where
   pub good : Good (stateOf d)
   pub long : length (d .entries) ≡ len
   pub fresh : d .bench .length ≡ len
-  pub slot-in : d .bench .slot < len / 256
-  pub kept-in : d .bench .kept ≤ len / 256
+  pub slot-in : d .bench .slot < capacity len
+  pub kept-in : d .bench .kept ≤ capacity len
 
 -- nothing lent is refused
-pub lent-sound : (len rom : ℕ) (d : Desk) → 0 < len → len % 256 ≡ 0 → rom ≤ 4194304 → SoundDesk len d → lentOf d rom ≡ 0
+pub lent-sound : (len rom : ℕ) (d : Desk) → 0 < len → len % entrySize ≡ 0 → rom ≤ 4194304 → SoundDesk len d → lentOf d rom ≡ 0
 unfolding lentNumber
 lent-sound len rom d pos whole h s =
     let g = s .good in
@@ -61,12 +62,12 @@ lent-sound len rom d pos whole h s =
       s .long,
       s .fresh,
       ne-eqb len 0 (λ e. omega arith),
-      eq-eqb (len % 256) 0 whole,
+      eq-eqb (len % entrySize) 0 whole,
       eq-eqb len len refl,
       le-ltb 4194304 rom h,
       passes (d .bench .machine) (g .ranges),
-      lt-leb (len / 256) (d .bench .slot) (s .slot-in),
-      le-ltb (len / 256) (d .bench .kept) (s .kept-in),
+      lt-leb (capacity len) (d .bench .slot) (s .slot-in),
+      le-ltb (capacity len) (d .bench .kept) (s .kept-in),
     )
 
 -- the number and the desk of each answer
@@ -118,12 +119,12 @@ module _ (rom : List ℕ) (d : Desk) (sound : lentOf d (length rom) ≡ 0) where
 pub op-keeps : (rom : List ℕ) → Bytes rom → (len : ℕ) (d : Desk) → SoundDesk len d → (o : Op) → Typed o → SoundDesk len (reply 0 d (obeyed rom o (stateOf d)) .desk)
 unfolding noted
 op-keeps rom bytes len d s o t =
-    let c : capacity (d .bench) ≡ len / 256 = ap (λ (n : ℕ). n / 256) (s .fresh) in
+    let c : capacity (d .bench .length) ≡ capacity len = ap capacity (s .fresh) in
     record {
       good = lawful rom bytes o t (stateOf d) (s .good) .good;
       long = length-written (d .entries) (d .bench .slot) (d .bench .machine) (obeyed rom o (stateOf d) .olds) ∙ s .long;
       fresh = s .fresh;
-      slot-in = rw c (after-lt (len / 256) (d .bench .slot) (s .slot-in));
+      slot-in = rw c (after-lt (capacity len) (d .bench .slot) (s .slot-in));
       kept-in = rw c (omega arith);
     }
 
@@ -134,8 +135,8 @@ module _ (rom : List ℕ) (d : Desk) (sound : lentOf d 0 ≡ 0) where
   back-none e = rw (sound, e)
 
   -- and with something kept, where the newest entry is one
-  pub back-some : (k : ℕ) (e : Entry) → d .bench .kept ≡ suc k → decodeAt (d .entries) (before (capacity (d .bench)) (d .bench .slot)) ≡ e → e .ok ≡ true
-      → called rom back d ≡ record { number = 0; desk = restored d e (before (capacity (d .bench)) (d .bench .slot)) }
+  pub back-some : (k : ℕ) (e : Decoded) → d .bench .kept ≡ suc k → decodeAt (d .entries) (before (capacity (d .bench .length)) (d .bench .slot)) ≡ e → e .ok ≡ true
+      → called rom back d ≡ record { number = 0; desk = restored d e (before (capacity (d .bench .length)) (d .bench .slot)) }
   unfolding called backCall backNumber
   back-some k e q n ok = rw (sound, n, ok, q, ne-eqb (suc k) 0 (λ z. omega arith))
 

@@ -11,10 +11,11 @@ use Rattle.bench.specs.Refusal.{lengthOff, bitsOff, freshNumber}
 use Rattle.bench.specs.declared.operate.Answer.{Answer}
 use Rattle.common.proofs.TableLaws.{pick-case}
 use Rattle.common.specs.Pick.{pick}
+use Rattle.layout.specs.Layout.{entrySize}
 
 pub record Fresh (len bitcycles : ℕ) : Type 0 where
   pub some : 0 < len
-  pub whole : len % 256 ≡ 0
+  pub whole : len % entrySize ≡ 0
   pub least : 1 ≤ bitcycles
   pub most : bitcycles ≤ 4096
   pub power-on : freshCall len bitcycles .bench ≡ emptyBench len bitcycles
@@ -50,8 +51,8 @@ module _ (len bitcycles : ℕ) where
       let l : lengthOff len ≡ false = unpicked (lengthOff len) 1 (pick (bitsOff bitcycles) 10 0) z in
       let c : bitsOff bitcycles ≡ false = unpicked (bitsOff bitcycles) 9 0 (rw l at z) in
       record {
-        some = positive len (eqb-false len 0 (or-left (eqb len 0) (not (eqb (len % 256) 0)) l));
-        whole = eqb-true (len % 256) 0 (not-false (eqb (len % 256) 0) (or-right (eqb len 0) (not (eqb (len % 256) 0)) l));
+        some = positive len (eqb-false len 0 (or-left (eqb len 0) (not (eqb (len % entrySize) 0)) l));
+        whole = eqb-true (len % entrySize) 0 (not-false (eqb (len % entrySize) 0) (or-right (eqb len 0) (not (eqb (len % entrySize) 0)) l));
         least = positive bitcycles (eqb-false bitcycles 0 (or-left (eqb bitcycles 0) (ltb 4096 bitcycles) c));
         most = ltb-false 4096 bitcycles (or-right (eqb bitcycles 0) (ltb 4096 bitcycles) c);
         power-on = rw z;

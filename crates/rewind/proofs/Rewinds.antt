@@ -1,5 +1,5 @@
 -- Demand 3, proved: a run of operations and back steps, some refused, comes to what its survivors alone come to.
-use Prim.Native.Nat.{ℕ, zero, suc, _+_, _-_, _/_, _%_, _≤_, _<_, min}
+use Prim.Native.Nat.{ℕ, zero, suc, _+_, _-_, _%_, _≤_, _<_, min}
 use mathlib.Core.Bool.{true, false}
 use mathlib.Core.List.{List, [], _∷_, _++_, map, reverse, reverse-cons}
 use mathlib.Core.Logic.{_≢_, inl}
@@ -10,12 +10,13 @@ use borrow.Author.Tests.{eq-eqb, ne-eqb}
 use lib.Dec.{eqb}
 use lib.ListN.{length, take}
 use Rattle.bench.specs.Calls.{Desk, lentOf, recorded, restored}
-use Rattle.bench.specs.Ring.{after, before, capacity, noted}
+use Rattle.bench.specs.Ring.{after, before, noted}
 use Rattle.common.specs.All.{AllOf}
 use Rattle.common.specs.Pick.{pick}
 use Rattle.entry.proofs.Entries.{read-written, other-slots}
 use Rattle.entry.specs.Entry.{decode, decodeAt}
-use Rattle.entry.specs.declared.Entry.{Entry}
+use Rattle.entry.specs.declared.Decoded.{Decoded}
+use Rattle.layout.specs.Layout.{entrySize, capacity}
 use Rattle.ranges.proofs.MachineLaws.{passes}
 use Rattle.rewind.proofs.Calls.{numberOf, reply, SoundDesk, lent-sound, op-keeps, op-called, back-none, back-some, op-sound, back-sound}
 use Rattle.rewind.proofs.Good.{Good, lawful}
@@ -39,9 +40,9 @@ abbrev pub ops : Trace → List Op
 ops [] = []
 ops (p ∷ ps) = p .op ∷ ops ps
 
-module _ (rom : List ℕ) (bytes : Bytes rom) (small : length rom ≤ 4194304) (len : ℕ) (pos : 0 < len) (whole : len % 256 ≡ 0) where
+module _ (rom : List ℕ) (bytes : Bytes rom) (small : length rom ≤ 4194304) (len : ℕ) (pos : 0 < len) (whole : len % entrySize ≡ 0) where
   abbrev pub cap : ℕ
-  cap = len / 256
+  cap = capacity len
 
   -- the accepted operations, the latest first, lead from s₀ to s
   abbrev pub Trail : State → Trace → State → Type 0
@@ -49,7 +50,7 @@ module _ (rom : List ℕ) (bytes : Bytes rom) (small : length rom ≤ 4194304) (
   Trail s₀ (p ∷ ps) s = Good (p .was) × Typed (p .op) × (numberOf (p .op) (p .was .machine) ≡ 0) × (obeyed rom (p .op) (p .was) .state ≡ s) × Trail s₀ ps (p .was)
 
   -- the entry of an accepted operation
-  abbrev pub entryOf : Past → Entry
+  abbrev pub entryOf : Past → Decoded
   entryOf p = record { ok = true; machine = p .was .machine; olds = obeyed rom (p .op) (p .was) .olds }
 
   -- the entries of the latest k operations stand in the k slots before slot n
@@ -152,8 +153,8 @@ module _ (rom : List ℕ) (bytes : Bytes rom) (small : length rom ≤ 4194304) (
     abbrev here : State
     here = stateOf d
 
-    fresh-cap : capacity (d .bench) ≡ cap
-    fresh-cap = ap (λ (n : ℕ). n / 256) (I .sound .fresh)
+    fresh-cap : capacity (d .bench .length) ≡ cap
+    fresh-cap = ap capacity (I .sound .fresh)
 
     -- an accepted operation whose record keeps j older ones
     taken : (o : Op) → Typed o → numberOf o (d .bench .machine) ≡ 0 → (j : ℕ) → min (d .bench .kept + 1) cap ≡ suc j → j ≤ d .bench .kept → j < cap
@@ -165,7 +166,7 @@ module _ (rom : List ℕ) (bytes : Bytes rom) (small : length rom ≤ 4194304) (
         let n = d .bench .slot in
         let L = lawful rom bytes o t here (I .sound .good) in
         let g = I .sound .good in
-        let slot-in : n < length (d .entries) / 256 = rw (I .sound .long) (I .sound .slot-in) in
+        let slot-in : n < capacity (length (d .entries)) = rw (I .sound .long) (I .sound .slot-in) in
         let newest = read-written (d .bench .machine) (x .olds) (g .fits) (passes (d .bench .machine) (g .ranges)) (L .olds-ok) (d .entries) n slot-in in
         let ba : before cap (after cap n) ≡ n = before-after cap n (I .sound .slot-in) in
         let older = holds-write d x n 0 j ps (I .sound .slot-in) (omega arith) (inl (omega arith)) (holds-less (d .entries) n (d .bench .kept) j ps jk (I .holds)) in
@@ -220,7 +221,7 @@ module _ (rom : List ℕ) (bytes : Bytes rom) (small : length rom ≤ 4194304) (
       let less : d .bench .kept - 1 ≡ k = omega arith in
       let L = lawful rom bytes (p .op) (T .1) (p .was) (T .0) in
       let ram : putBack (entryOf p .olds) (d .ram) ≡ p .was .ram = ap (λ (s : State). putBack (entryOf p .olds) (s .ram)) (sym (T .3)) ∙ L .undo in
-      let at : decodeAt (d .entries) (before (capacity (d .bench)) (d .bench .slot)) ≡ entryOf p = rw c (H .0) in
+      let at : decodeAt (d .entries) (before (capacity (d .bench .length)) (d .bench .slot)) ≡ entryOf p = rw c (H .0) in
       let b = back-some rom d (lent-none s₀ d (p ∷ ps) I 0 (omega arith)) k (entryOf p) e at refl in
       let st : stateOf (restored d (entryOf p) slot) ≡ p .was = λ i. record { machine = p .was .machine; ram = ram i } in
       rw (b, c)
@@ -323,7 +324,7 @@ module _ (rom : List ℕ) (bytes : Bytes rom) (small : length rom ≤ 4194304) (
     back-number zero qs e H = ap (λ (r : Reply). r .number) (back-none rom d (lent-none s₀ d ps I 0 (omega arith)) e)
     back-number (suc k) [] e H = absurd H
     back-number (suc k) (p ∷ qs) e H =
-        let at : decodeAt (d .entries) (before (capacity (d .bench)) (d .bench .slot)) ≡ entryOf p = rw (fresh-cap s₀ d ps I) (H .0) in
+        let at : decodeAt (d .entries) (before (capacity (d .bench .length)) (d .bench .slot)) ≡ entryOf p = rw (fresh-cap s₀ d ps I) (H .0) in
         rw (ne-eqb (suc k) 0 (λ z. omega arith)) (ap (λ (r : Reply). r .number) (back-some rom d (lent-none s₀ d ps I 0 (omega arith)) k (entryOf p) e at refl))
 
     call-sound : (c : Call) → TypedCall c → Sound (called rom c d .number)
@@ -339,12 +340,12 @@ module _ (rom : List ℕ) (bytes : Bytes rom) (small : length rom ≤ 4194304) (
         let d = run rom d₀ cs in
         let I = E .inv in
         let ds = deeds rom d₀ cs in
-        let c : capacity (d₀ .bench) ≡ cap = ap (λ (n : ℕ). n / 256) fresh in
+        let c : capacity (d₀ .bench .length) ≡ cap = ap capacity fresh in
         let live : survivors ds ≡ ops (E .trace) = E .live in
         let start : shelf d₀ [] ≡ record { next = 0; held = [] } = rw (slot, kept) in
-        let held : keptOps (capacity (d₀ .bench)) ds ≡ placed (d .bench .slot) (d .bench .kept) (E .trace) =
+        let held : keptOps (capacity (d₀ .bench .length)) ds ≡ placed (d .bench .slot) (d .bench .kept) (E .trace) =
         rw c (ap (λ (k : Shelf Op). keepFrom cap k ds .held) (sym start) ∙ ap (λ (k : Shelf Op). k .held) (E .kept)) in
-        let l : length (keptOps (capacity (d₀ .bench)) ds) ≡ d .bench .kept = ap length held ∙ placed-length (d .entries) (d .bench .slot) (d .bench .kept) (E .trace) (I .holds) in
+        let l : length (keptOps (capacity (d₀ .bench .length)) ds) ≡ d .bench .kept = ap length held ∙ placed-length (d .entries) (d .bench .slot) (d .bench .kept) (E .trace) (I .holds) in
         let rules : obeyedAll rom (stateOf d₀) (reverse (survivors ds)) ≡ stateOf d = rw live (trail-rules (stateOf d₀) (stateOf d) (E .trace) (I .trail)) in
         let goes : Goes (stateOf d₀) (reverse (survivors ds)) = rw live (trail-goes (stateOf d₀) (stateOf d) (E .trace) (I .trail)) in
         record {

@@ -7,9 +7,9 @@ use mathlib.Core.Path.{_≡_}
 use lib.Dec.{eqb}
 use lib.ListN.{length, take}
 use Rattle.bench.specs.Calls.{Desk, desk, freshCall}
-use Rattle.bench.specs.Ring.{capacity}
 use Rattle.common.specs.All.{AllOf}
 use Rattle.common.specs.Pick.{pick}
+use Rattle.layout.specs.Layout.{capacity}
 use Rattle.rewind.specs.History.{survivors, keptOps}
 use Rattle.rewind.specs.Rules.{Op, obeyedAll}
 use Rattle.rewind.specs.Run.{Call, operation, back, TypedCall, called, run, deeds, stateOf}
@@ -44,7 +44,7 @@ module _ (rom : List ℕ) (d₀ : Desk) (cs : List Call) where
   alive = reverse (survivors (deeds rom d₀ cs))
 
   abbrev pub kept : ℕ
-  kept = length (keptOps (capacity (d₀ .bench)) (deeds rom d₀ cs))
+  kept = length (keptOps (capacity (d₀ .bench .length)) (deeds rom d₀ cs))
 
   pub record Rewound : Type 0 where
     -- the state is what the survivors give when called alone
@@ -54,7 +54,7 @@ module _ (rom : List ℕ) (d₀ : Desk) (cs : List Call) where
     -- the machine counts the operations that the record keeps
     pub counted : run rom d₀ cs .bench .kept ≡ kept
     -- they are the latest survivors
-    pub latest : map (λ p. p .op) (keptOps (capacity (d₀ .bench)) (deeds rom d₀ cs)) ≡ take kept (survivors (deeds rom d₀ cs))
+    pub latest : map (λ p. p .op) (keptOps (capacity (d₀ .bench .length)) (deeds rom d₀ cs)) ≡ take kept (survivors (deeds rom d₀ cs))
     -- a back step is refused exactly where there is none, and then by 8
     pub refused : called rom back (run rom d₀ cs) .number ≡ pick (eqb kept 0) 8 0
     -- whatever call comes next

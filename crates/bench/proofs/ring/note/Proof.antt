@@ -3,6 +3,9 @@ use borrow.Author.Needs.{needs}
 use Rattle.bench.proofs.ring.note.Statement.{statement}
 use Rattle.bench.proofs.ring.note.Tie as tie
 
+capacity-requires : tie.Need-capacity-requires
+capacity-requires c κs = search needs
+
 write-entry-requires : tie.Need-write-entry-requires
 write-entry-requires c κs = search needs
 
@@ -17,9 +20,9 @@ same-length c = search needs
 
 returns : tie.Need-returns
 unfolding noted
-returns c = simp (c .more-kept .ensures, c .before .slot-after .ensures, c .before .before .before .before .write-entry .ensures)
+returns c = simp (c .more-kept .ensures, c .before .slot-after .ensures, c .before .before .before .before .write-entry .ensures, c .before .before .before .before .before .before .capacity .ensures)
 
 pub note-spec : {M : Type 1} → statement M
 note-spec =
     tie.close
-    (tie.spec write-entry-requires slot-after-requires more-kept-requires same-length returns)
+    (tie.spec capacity-requires write-entry-requires slot-after-requires more-kept-requires same-length returns)

@@ -1,10 +1,11 @@
 -- Where an address leads and what it costs (bus/src/bus.rs; Fullsnes, "Memory map"; document 01, "Speeds").
 use Prim.Native.Nat.{ℕ}
-use mathlib.Core.Bool.{Bool, true}
+use mathlib.Core.Bool.{Bool, true, false}
 use lib.Dec.{eqb, ltb}
 use Rattle.common.specs.Pick.{pick}
 use Rattle.common.specs.Range.{within}
 use Rattle.cartridge.specs.Cartridge.{romCost}
+use Rattle.registers.specs.WmAdd.{stepped}
 use Rattle.registers.specs.declared.wm_address.WmAddBank.{WmAddBank}
 use Rattle.registers.specs.declared.wm_address.WmAddBank.the-variants as wm
 use Rattle.registers.specs.declared.wm_address.WmAddress.{WmAddress}
@@ -24,6 +25,18 @@ systemRoute a = pick (ltb a 0x2000) Bank7E (pick (ltb a 0x6000) (pick (eqb a 0x2
 -- system banks; work RAM; all else is the cartridge's
 unfoldable pub routeOf : ℕ → ℕ → Route
 routeOf b a = pick (system b) (systemRoute a) (pick (eqb b 0x7E) Bank7E (pick (eqb b 0x7F) Bank7F Cartridge))
+
+-- work RAM by its own address, or the cartridge
+abbrev pub memory : Route → Bool
+memory Bank7E = true
+memory Bank7F = true
+memory Data = false
+memory Registers = false
+memory Cartridge = true
+
+-- WMADD after an access to a port of page $21
+abbrev pub nextWm : ℕ → WmAddress → WmAddress
+nextWm p w = pick (eqb p 0x2180) (stepped w) w
 
 -- the place that WMADD names
 abbrev pub wmPlace : WmAddBank → ℕ → Place

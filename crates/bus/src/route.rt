@@ -1,6 +1,6 @@
 // Where an address leads.
 ghost use mathlib.Core.Path.{_≡_};
-ghost use Rattle.bus.specs.Route.{systemRoute, routeOf, placeOf};
+ghost use Rattle.bus.specs.Route.{systemRoute, routeOf, placeOf, memory};
 use registers::wm_address::WmAddBank;
 use registers::wm_address::WmAddress;
 use wram::Place;
@@ -52,5 +52,18 @@ pub fn place_of(wmadd: WmAddress, route: Route, addr: u16) -> Place
         }
         Route::Registers => Place::Nowhere,
         Route::Cartridge => Place::Nowhere,
+    }
+}
+
+// Work RAM by its own address, or the cartridge.
+pub fn leads_to_memory(way: Route) -> bool
+    ensures { λ r. ⌜ r ≡ memory way ⌝ }
+{
+    match way {
+        Route::Bank7E => true,
+        Route::Bank7F => true,
+        Route::Data => false,
+        Route::Registers => false,
+        Route::Cartridge => true,
     }
 }

@@ -1,27 +1,19 @@
 -- The steps of an exported call, joined: the machine is read from its bytes, the call made, the machine written.
 use Prim.Native.Nat.{ℕ}
-use mathlib.Core.Bool.{Bool, true, false}
-use mathlib.Core.List.{List, [], _++_}
+use mathlib.Core.Bool.{Bool}
+use mathlib.Core.List.{List, []}
 use mathlib.Core.Path.{_≡_, refl, ap, _∙_}
-use lib.Dec.{eqb}
 use lib.ListN.{length}
+use Rattle.asbytes.specs.Crossed.{Crossed, crossed, cycleCrossed}
+use Rattle.asbytes.specs.Machine.{benchOf, stored}
+use Rattle.asbytes.proofs.Join.{put-by}
 use Rattle.bench.specs.Calls.{desk, CycleOut, cycleCall, ReadOut, readCall, WriteOut, writeCall, PlainOut, padCall, plugCall, answerCall, backCall, freshCall}
 use Rattle.bench.specs.Page.{pageCall}
 use Rattle.bench.specs.Refusal.{lookNumber}
-use Rattle.bench.specs.Ring.{bench}
 use Rattle.bench.specs.declared.Bench.{Bench}
 use Rattle.bench.specs.declared.operate.Answer.{Answer}
-use Rattle.bus.specs.declared.access.Log.{Log}
-use Rattle.entry.specs.Entry.{decodeAt, written}
-use Rattle.entry.specs.declared.Entry.{Entry}
-use Rattle.fields.specs.Little.{le, field}
 use Rattle.fields.specs.Patch.{patched}
-use Rattle.image.specs.Groups.{byte, flag}
-use Rattle.state.specs.declared.Machine.{Machine}
-use Rattle.wram.specs.Olds.{noOlds}
-use Rattle.wram.specs.declared.Olds.{Olds}
-use Rattle.player_abi.specs.Bytes.{machineOf, benchOf, stored, saved}
-use Rattle.player_abi.specs.Crossed.{Crossed, crossed, encAccesses, answered, cycleCrossed, readCrossed, writeCrossed, plainCrossed, freshCrossed}
+use Rattle.player_abi.specs.Calls.{readCrossed, writeCrossed, plainCrossed, freshCrossed}
 
 -- a call on what the bytes stand for
 pub crossing-by : {O : Type 0} {b : Bench} {o : O} {x : Crossed} (s : List ℕ) (call : Bench → O) (f : O → Crossed)
@@ -31,39 +23,6 @@ crossing-by s call f p q r = r ∙ ap f (q ∙ ap call p)
 -- machine and answer bytes, each by its writer
 pub left-by : {m m′ o o′ : List ℕ} (n : ℕ) (l h e : List ℕ) → m ≡ m′ → o ≡ o′ → crossed n m l h e o ≡ crossed n m′ l h e o′
 left-by n l h e p q = λ i. crossed n (p i) l h e (q i)
-
-pub bench-by : {e : Entry} {m : Machine} {a b c : ℕ} (s : List ℕ) → e ≡ decodeAt s 0 → m ≡ machineOf e
-    → a ≡ field 8 s 256 → b ≡ field 8 s 264 → c ≡ field 8 s 272 → bench m a b c ≡ benchOf s
-unfolding benchOf
-bench-by s p q x y z = λ i. bench ((q ∙ ap machineOf p) i) (x i) (y i) (z i)
-
--- ---- bytes
-
-pub put-by : (d : List ℕ) (at : ℕ) {d′ x y : List ℕ} → d′ ≡ patched d at x → x ≡ y → d′ ≡ patched d at y
-put-by d at p q = p ∙ ap (λ (z : List ℕ). patched d at z) q
-
-pub written-by : (d : List ℕ) (m : Machine) {d′ : List ℕ} {o : Olds} → d′ ≡ written d 0 m o → o ≡ noOlds → d′ ≡ written d 0 m noOlds
-written-by d m p q = p ∙ ap (λ (z : Olds). written d 0 m z) q
-
-pub stored-by : (s : List ℕ) (b : Bench) {w x y z : List ℕ} → w ≡ written s 0 (b .machine) noOlds → x ≡ patched w 256 (le 8 (b .slot))
-    → y ≡ patched x 264 (le 8 (b .kept)) → z ≡ patched y 272 (le 8 (b .length)) → z ≡ stored b s
-unfolding stored
-stored-by s b p q r t =
-    t ∙ ap (λ (l : List ℕ). patched l 272 (le 8 (b .length))) (r ∙ ap (λ (l : List ℕ). patched l 264 (le 8 (b .kept))) (q ∙ ap (λ (l : List ℕ). patched l 256 (le 8 (b .slot))) p))
-
-pub saved-by : (s : List ℕ) (n : ℕ) (b : Bench) {s′ : List ℕ} → eqb n 0 ≡ true → s′ ≡ stored b s → s′ ≡ saved n b s
-unfolding saved
-saved-by s n b z p = rw z p
-
-pub left-as : (n : ℕ) (b : Bench) (s : List ℕ) → eqb n 0 ≡ false → s ≡ saved n b s
-unfolding saved
-left-as n b s z = rw z refl
-
-pub answered-by : (out : List ℕ) (held edge : Bool) (log : Log) {a b x : List ℕ} → a ≡ patched out 0 (flag held ++ flag edge ++ byte (log .count))
-    → x ≡ encAccesses (log .items) → b ≡ patched a 3 x → b ≡ answered held edge log out
-unfolding answered
-answered-by out held edge log {a} p q r =
-    r ∙ ap (λ (z : List ℕ). patched a 3 z) q ∙ ap (λ (z : List ℕ). patched z 3 (encAccesses (log .items))) p
 
 -- ---- calls
 

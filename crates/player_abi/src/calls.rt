@@ -3,21 +3,22 @@ ghost use mathlib.Core.Path.{_≡_};
 ghost use mathlib.Core.List.{[]};
 ghost use denote.Ref.{now};
 ghost use lib.ListN.{length};
+ghost use Rattle.asbytes.specs.Crossed.{crossed, cycleCrossed};
+ghost use Rattle.asbytes.specs.Machine.{benchOf};
 ghost use Rattle.bench.specs.Calls.{desk, freshCall, cycleCall, readCall, writeCall, padCall, plugCall, answerCall, backCall};
 ghost use Rattle.bench.specs.Page.{pageCall};
 ghost use Rattle.bench.specs.Refusal.{lookNumber};
 ghost use Rattle.benchfile.specs.File.{fileCheck};
 ghost use Rattle.fields.specs.Patch.{patched};
-ghost use Rattle.player_abi.specs.Bytes.{benchOf};
-ghost use Rattle.player_abi.specs.Crossed.{crossed, cycleCrossed, readCrossed, writeCrossed, plainCrossed, freshCrossed};
-use crate::accesses::put_answer;
-use crate::bytes::bench_of;
-use crate::bytes::save;
-use crate::bytes::store;
-use crate::carry::carry;
-use crate::rest::rest;
-use crate::way::way_of;
+ghost use Rattle.player_abi.specs.Calls.{readCrossed, writeCrossed, plainCrossed, freshCrossed};
+use asbytes::answer::put_answer;
+use asbytes::bytes::bench_of;
+use asbytes::bytes::save;
+use asbytes::bytes::store;
 use fields::put;
+use inplace::onebyte::carry;
+use inplace::rest::rest;
+use way::way_of;
 
 // A machine at power-on.
 #[no_mangle]

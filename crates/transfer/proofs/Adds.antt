@@ -10,7 +10,6 @@ use Rattle.bus.specs.World.{World, readAt}
 use Rattle.bus.specs.declared.access.Core.{Core}
 use Rattle.registers.specs.declared.channel.DmaChannel.{DmaChannel}
 use Rattle.transfer.proofs.BitLaws.{unit-len-le}
-use Rattle.transfer.specs.Bits.{flagOf}
 use Rattle.transfer.specs.Byte.{moved, stepA1t, tripAt, transferByte}
 use Rattle.transfer.specs.Pattern.{unitLen}
 use Rattle.transfer.specs.Table.{tableRead, dasLoaded}
@@ -36,9 +35,7 @@ module _ (rom : List ℕ) where
 
 a1t-adds : (w : World) (ch dmap : ℕ) → Adds 0 0 w (withCore w (stepA1t (w .core) ch dmap))
 unfolding stepA1t
-a1t-adds w ch dmap =
-    let P : Core → Type 0 = λ (k : Core). Adds 0 0 w (withCore w k) in
-    pick-elim P (flagOf dmap 0x08) (adds-none w) (pick-elim P (flagOf dmap 0x10) (channel-adds w ch _) (channel-adds w ch _))
+a1t-adds w ch dmap = channel-adds w ch _
 
 stored-adds : (w : World) (ch : ℕ) (ind : Bool) (addr : ℕ) → Adds 0 0 w (withCore w (sourceStored (w .core) ch ind addr))
 unfolding sourceStored

@@ -11,7 +11,7 @@ use Rattle.bus.specs.declared.access.Core.{Core}
 use Rattle.common.specs.Width.{Word, Bytes}
 use Rattle.registers.specs.declared.channel.DmaChannel.{DmaChannel}
 use Rattle.transfer.specs.Bits.{flagOf}
-use Rattle.transfer.specs.Byte.{tripOf, moved, stepA1t, tripAt, transferByte}
+use Rattle.transfer.specs.Byte.{tripOf, moved, nextA1t, stepA1t, tripAt, transferByte}
 use Rattle.transfer.specs.Pattern.{offsetOf, unitLen, bAddress}
 use Rattle.transfer.specs.Table.{tableRead, dasLoaded}
 use Rattle.transfer.specs.Unit.{unitByte, unitBytes, sourceOf, sourceStored, unitSent}
@@ -24,10 +24,10 @@ trip-fits dmap bank bbad off h = pick-elim (λ (t : Trip). Word (t .target .addr
 a1t-fits : {w : World} (ch dmap : ℕ) → FitWorld w → FitWorld (withCore w (stepA1t (w .core) ch dmap))
 unfolding stepA1t
 a1t-fits {w} ch dmap f =
-    let P : Core → Type 0 = λ (k : Core). FitWorld (withCore w k) in
     let c = channel-fits f ch in
-    pick-elim P (flagOf dmap 0x08) f
-    (pick-elim P (flagOf dmap 0x10) (with-channel-fits f ch (omega (arith, c))) (with-channel-fits f ch (omega (arith, c))))
+    let a = channelOf (w .core) ch .a1t in
+    let next : Word (nextA1t dmap a) = pick-elim Word (flagOf dmap 0x08) (omega (arith, c)) (pick-elim Word (flagOf dmap 0x10) (omega arith) (omega arith)) in
+    with-channel-fits f ch (omega (arith, c, next))
 
 stored-fits : {w : World} (ch : ℕ) (ind : Bool) {addr : ℕ} → FitWorld w → Word addr → FitWorld (withCore w (sourceStored (w .core) ch ind addr))
 unfolding sourceStored

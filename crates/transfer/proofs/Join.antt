@@ -2,7 +2,7 @@
 use Prim.Native.Nat.{ℕ, _+_, _%_}
 use mathlib.Core.Bool.{Bool, true, false}
 use mathlib.Core.List.{List}
-use mathlib.Core.Path.{_≡_}
+use mathlib.Core.Path.{_≡_, _∙_}
 use Rattle.common.specs.Word.{word}
 use Rattle.common.specs.declared.snes_address.SnesAddress.{SnesAddress}
 use Rattle.bus.specs.View.{channelOf, withChannel, withCore}
@@ -10,8 +10,8 @@ use Rattle.bus.specs.World.{World, Reading, readAt, writeAt}
 use Rattle.bus.specs.declared.access.Core.{Core}
 use Rattle.registers.specs.Groups.{withDmaChannel-a1t, withDmaChannel-a2a, withDmaChannel-das}
 use Rattle.registers.specs.declared.channel.DmaChannel.{DmaChannel}
-use Rattle.transfer.specs.Bits.{flagOf, down, up}
-use Rattle.transfer.specs.Byte.{tripOf, moved, stepA1t, transferByte}
+use Rattle.transfer.specs.Bits.{up}
+use Rattle.transfer.specs.Byte.{tripOf, moved, nextA1t, stepA1t, transferByte}
 use Rattle.transfer.specs.Pattern.{offsetOf, unitLen, bAddress}
 use Rattle.transfer.specs.Table.{tableRead, dasLoaded}
 use Rattle.transfer.specs.Unit.{SentUnit, unitByte, unitBytes, sourceOf, sourceStored, unitSent}
@@ -22,20 +22,10 @@ pub moved-by : (rom : List ℕ) (w : World) (t : Trip) {v : World} {r : Reading}
 unfolding moved
 moved-by rom w t p q = cc
 
--- one law for each way that A1T steps
-module _ (k : Core) (ch dmap : ℕ) where
-  pub step-fixed : flagOf dmap 0x08 ≡ true → k ≡ stepA1t k ch dmap
-  unfolding stepA1t
-  step-fixed f = cc
-
-  module _ {c : DmaChannel} {x : ℕ} {j : Core} (f : flagOf dmap 0x08 ≡ false) (p : c ≡ channelOf k ch) where
-    pub step-down : flagOf dmap 0x10 ≡ true → x ≡ down 65536 (c .a1t) → j ≡ withChannel k ch (withDmaChannel-a1t c x) → j ≡ stepA1t k ch dmap
-    unfolding stepA1t
-    step-down d q r = cc
-
-    pub step-up : flagOf dmap 0x10 ≡ false → x ≡ up 65536 (c .a1t) → j ≡ withChannel k ch (withDmaChannel-a1t c x) → j ≡ stepA1t k ch dmap
-    unfolding stepA1t
-    step-up d q r = cc
+pub step-by : (k : Core) (ch dmap : ℕ) {c : DmaChannel} {x : ℕ} {j : Core} → c ≡ channelOf k ch → x ≡ nextA1t dmap (c .a1t)
+    → j ≡ withChannel k ch (withDmaChannel-a1t c x) → j ≡ stepA1t k ch dmap
+unfolding stepA1t
+step-by k ch dmap p q r = r ∙ (λ i. withChannel k ch (withDmaChannel-a1t (p i) ((q ∙ (λ j. nextA1t dmap (p j .a1t))) i)))
 
 pub transfer-by : (rom : List ℕ) (w : World) (ch u : ℕ) {off b : ℕ} {t : Trip} {c : DmaChannel} {v : World} {k : Core}
     → c ≡ channelOf (w .core) ch

@@ -3,3 +3,4 @@ pub mod Join
 pub mod Sending
 pub mod Adds
 pub mod FitLaws
+pub mod PlainMove

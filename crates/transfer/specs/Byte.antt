@@ -1,10 +1,13 @@
 -- One byte moved, and the byte of a general transfer (src/dma.rs, dma_transfer_byte).
 use Prim.Native.Nat.{ℕ}
+use mathlib.Core.Bool.{true, false}
 use mathlib.Core.List.{List}
 use Rattle.common.specs.Pick.{pick}
+use Rattle.bus.specs.Access.{noLog, pushAccess}
 use Rattle.bus.specs.View.{channelOf, withChannel, withCore}
 use Rattle.bus.specs.World.{World, readAt, writeAt}
 use Rattle.bus.specs.declared.access.Core.{Core}
+use Rattle.bus.specs.declared.access.Log.{Log}
 use Rattle.registers.specs.Groups.{withDmaChannel-a1t}
 use Rattle.transfer.specs.Bits.{flagOf, down, up}
 use Rattle.transfer.specs.Pattern.{offsetOf, bAddress}
@@ -21,13 +24,19 @@ unfoldable pub moved : List ℕ → World → Trip → World
 moved rom w t =
     let r = readAt rom w (t .source .bank) (t .source .addr) in writeAt (r .world) (t .target .bank) (t .target .addr) (r .byte)
 
--- A1T steps inside its bank: bit 3 of DMAP holds it, else bit 4 takes it down. Both bits are from before the byte, A1T is not
+-- the read of a byte v, then its write
+unfoldable pub movedLog : Trip → ℕ → Log
+movedLog t v =
+    pushAccess (pushAccess noLog (record { write = false; bank = t .source .bank; addr = t .source .addr; byte = v }))
+    (record { write = true; bank = t .target .bank; addr = t .target .addr; byte = v })
+
+-- A1T steps inside its bank: bit 3 of DMAP holds it, else bit 4 takes it down
+abbrev pub nextA1t : ℕ → ℕ → ℕ
+nextA1t dmap a1t = pick (flagOf dmap 0x08) a1t (pick (flagOf dmap 0x10) (down 65536 a1t) (up 65536 a1t))
+
+-- a channel with its A1T stepped: both bits are from before the byte, A1T is not
 unfoldable pub stepA1t : Core → ℕ → ℕ → Core
-stepA1t k ch dmap =
-    let c = channelOf k ch in
-    pick (flagOf dmap 0x08) k
-    (pick (flagOf dmap 0x10) (withChannel k ch (withDmaChannel-a1t c (down 65536 (c .a1t))))
-    (withChannel k ch (withDmaChannel-a1t c (up 65536 (c .a1t)))))
+stepA1t k ch dmap = let c = channelOf k ch in withChannel k ch (withDmaChannel-a1t c (nextA1t dmap (c .a1t)))
 
 -- the trip of a general byte: DMAP, BBAD and the address are those from before it
 abbrev pub tripAt : World → ℕ → ℕ → Trip

@@ -2,7 +2,7 @@
 ghost use mathlib.Core.Path.{_≡_};
 ghost use denote.Ref.{now};
 ghost use Rattle.bus.specs.World.{world};
-ghost use Rattle.transfer.specs.Byte.{tripOf, moved, stepA1t, transferByte};
+ghost use Rattle.transfer.specs.Byte.{tripOf, moved, nextA1t, stepA1t, transferByte};
 use crate::bits::dec16;
 use crate::bits::flag;
 use crate::bits::inc16;
@@ -57,20 +57,24 @@ pub fn move_byte(core: Core, low: &mut [u8], high: &mut [u8], rom: &[u8], trip: 
 }
 
 // A1T steps inside its bank: bit 3 of DMAP holds it, else bit 4 takes it down.
+pub fn next_a1t(dmap: u8, a1t: u16) -> u16
+    ensures { λ r. ⌜ r ≡ nextA1t dmap a1t ⌝ }
+{
+    if flag(dmap, 0x08) {
+        return a1t;
+    }
+    if flag(dmap, 0x10) {
+        return dec16(a1t);
+    }
+    inc16(a1t)
+}
+
 fn step_a1t(core: Core, ch: u8, dmap: u8) -> Core
     ensures { λ r. ⌜ r ≡ stepA1t core ch dmap ⌝ }
 {
-    if flag(dmap, 0x08) {
-        return core;
-    }
     let mut c = channel_of(core, ch);
-    if flag(dmap, 0x10) {
-        let x = dec16(c.a1t);
-        c.a1t = x;
-        return with_channel(core, ch, c);
-    }
-    let x = inc16(c.a1t);
-    c.a1t = x;
+    let a = next_a1t(dmap, c.a1t);
+    c.a1t = a;
     with_channel(core, ch, c)
 }
 

@@ -1,7 +1,7 @@
 use Rattle.player_abi.proofs.Join.{cycle-by, left-by}
-use Rattle.player_abi.proofs.CarryLaws.{carry-crossed}
-use Rattle.player_abi.proofs.RestLaws.{rest-crossed}
-use Rattle.player_abi.proofs.BytesLaws.{all-bytes}
+use Rattle.inplace.proofs.OneByteLaws.{carry-crossed}
+use Rattle.inplace.proofs.RestLaws.{rest-crossed}
+use Rattle.way.proofs.Ready.{all-bytes}
 use borrow.Author.Needs.{needs}
 use Rattle.player_abi.proofs.calls.cloverwain_cycle.Statement.{statement}
 use Rattle.player_abi.proofs.calls.cloverwain_cycle.Tie as tie
@@ -22,7 +22,13 @@ same-length-3 : tie.Need-same-length-3
 same-length-3 c = search needs
 
 returns : tie.Need-returns
-returns c = rest-crossed ((c .before .before .before .before .before .before .before .before .before .before .before .before .before .before .before .before .before .before .before .args .rom .now)) ((c .before .before .before .before .before .before .before .before .before .before .before .before .before .before .before .before .before .before .before .args .machine .now)) ((c .before .before .before .before .before .before .before .before .before .before .before .before .before .before .before .before .before .before .before .args .low .now)) ((c .before .before .before .before .before .before .before .before .before .before .before .before .before .before .before .before .before .before .before .args .high .now)) ((c .before .before .before .before .before .before .before .before .before .before .before .before .before .before .before .before .before .before .before .args .entries .now)) ((c .before .before .before .before .before .before .before .before .before .before .before .before .before .before .before .before .before .before .before .args .out .now)) _ _ _ (all-bytes ((c .before .before .before .before .before .before .before .before .before .before .before .before .before .before .before .before .before .before .before .args .machine .now)) (λ k h. (c .before .before .before .before .before .before .before .before .before .before .before .before .before .before .before .before .before .before .slice-known .given) k .fits)) ((c .before .before .before .before .before .before .before .before .before .before .before .way-of .ensures)) ((c .before .before .before .before .before .before .before .before .before .before .if1 .taken)) ((c .before .before .before .before .before .before .rest .ensures))
+returns c =
+    let at-rest = c .before .before .before .before .before .before in
+    let at-if1 = at-rest .before .before .before .before in
+    let at-way-of = at-if1 .before in
+    let at-slice-known = at-way-of .before .before .before .before .before .before .before in
+    let start = at-slice-known .before in
+    rest-crossed (start .args .rom .now) (start .args .machine .now) (start .args .low .now) (start .args .high .now) (start .args .entries .now) (start .args .out .now) _ _ _ (all-bytes (start .args .machine .now) (λ k h. (at-slice-known .slice-known .given) k .fits)) (at-way-of .way-of .ensures) (at-if1 .if1 .taken) (at-rest .rest .ensures)
 
 carry-requires : tie.Need-carry-requires
 carry-requires c κs = search needs
@@ -43,7 +49,13 @@ same-length-8 : tie.Need-same-length-8
 same-length-8 c = search needs
 
 returns-2 : tie.Need-returns-2
-returns-2 c = carry-crossed ((c .before .before .before .before .before .before .before .before .before .before .before .before .before .before .before .before .before .before .before .before .before .before .before .before .before .before .args .rom .now)) ((c .before .before .before .before .before .before .before .before .before .before .before .before .before .before .before .before .before .before .before .before .before .before .before .before .before .before .args .machine .now)) ((c .before .before .before .before .before .before .before .before .before .before .before .before .before .before .before .before .before .before .before .before .before .before .before .before .before .before .args .low .now)) ((c .before .before .before .before .before .before .before .before .before .before .before .before .before .before .before .before .before .before .before .before .before .before .before .before .before .before .args .high .now)) ((c .before .before .before .before .before .before .before .before .before .before .before .before .before .before .before .before .before .before .before .before .before .before .before .before .before .before .args .entries .now)) ((c .before .before .before .before .before .before .before .before .before .before .before .before .before .before .before .before .before .before .before .before .before .before .before .before .before .before .args .out .now)) _ _ _ (all-bytes ((c .before .before .before .before .before .before .before .before .before .before .before .before .before .before .before .before .before .before .before .before .before .before .before .before .before .before .args .machine .now)) (λ k h. (c .before .before .before .before .before .before .before .before .before .before .before .before .before .before .before .before .before .before .before .before .before .before .before .before .before .slice-known .given) k .fits)) ((c .before .before .before .before .before .before .before .before .before .before .before .before .before .before .before .before .before .before .way-of .ensures)) ((c .before .before .before .before .before .before .before .before .before .before .before .before .before .before .before .before .if2 .taken)) ((c .before .before .before .before .before .before .before .before .before .before .carry .ensures))
+returns-2 c =
+    let at-carry = c .before .before .before .before .before .before .before .before .before .before in
+    let at-if2 = at-carry .before .before .before .before .before .before in
+    let at-way-of = at-if2 .before .before in
+    let at-slice-known = at-way-of .before .before .before .before .before .before .before in
+    let start = at-slice-known .before in
+    carry-crossed (start .args .rom .now) (start .args .machine .now) (start .args .low .now) (start .args .high .now) (start .args .entries .now) (start .args .out .now) _ _ _ (all-bytes (start .args .machine .now) (λ k h. (at-slice-known .slice-known .given) k .fits)) (at-way-of .way-of .ensures) (at-if2 .if2 .taken) (at-carry .carry .ensures)
 
 bench-of-requires : tie.Need-bench-of-requires
 bench-of-requires c κs = search needs
@@ -73,7 +85,7 @@ same-length-13 : tie.Need-same-length-13
 same-length-13 c = search needs
 
 returns-3 : tie.Need-returns-3
-returns-3 c = cycle-by _ _ _ _ _ ((c .before .before .before .before .before .before .before .before .before .before .before .before .before .before .before .before .before .before .before .before .bench-of .ensures)) _ _ _ ((c .before .before .before .before .before .before .before .before .before .before .before .before .before .before .before .before .before .before .before .before .before .before .before .before .before .before .before .before .before .before .before .before .args .out .now)) ((c .before .before .before .before .before .before .before .before .before .before .before .before .before .before .before .before .cycle .ensures)) (left-by _ _ _ _ ((c .before .before .before .before .before .before .save .ensures)) ((c .before .before .put-answer .ensures)))
+returns-3 c = cycle-by _ _ _ _ _ (c .before .before .before .before .before .before .before .before .before .before .before .before .before .before .before .before .before .before .before .before .bench-of .ensures) _ _ _ (c .before .before .before .before .before .before .before .before .before .before .before .before .before .before .before .before .before .before .before .before .before .before .before .before .before .before .before .before .before .before .before .before .args .out .now) (c .before .before .before .before .before .before .before .before .before .before .before .before .before .before .before .before .cycle .ensures) (left-by _ _ _ _ (c .before .before .before .before .before .before .save .ensures) (c .before .before .put-answer .ensures))
 
 pub cloverwain-cycle-spec : {M : Type 1} → statement M
 cloverwain-cycle-spec =

@@ -1,0 +1,53 @@
+-- The first bytes of the machine's are the image: what is read there, and another image laid over it.
+use Prim.Native.Nat.{ℕ, zero, suc, _+_, _≤_, _<_}
+use mathlib.Core.Bool.{true}
+use mathlib.Core.List.{List, _∷_, _++_}
+use mathlib.Core.Path.{_≡_, refl, sym, ap, _∙_}
+use native.Mathlib.Omega.{arith}
+use borrow.Author.Tests.{le-leb}
+use lib.ListN.{length, getD, take, drop, take-append-drop}
+use lib.Seq.{getD-take}
+use Rattle.decode.specs.Decode.{num}
+use Rattle.fields.specs.Bytes.{byteAt}
+use Rattle.fields.specs.Little.{joined, span}
+use Rattle.fields.specs.Patch.{patched}
+use Rattle.fields.specs.Table.{follow, numberAt}
+use Rattle.layout.specs.Layout.{imageSize}
+use Rattle.layout.specs.Layout as the
+use Rattle.asbytes.specs.Machine.{headOf}
+use Rattle.asbytes.specs.Places.{beside, ofBeside, machineSize}
+
+-- the numbers beside the image follow it without a gap
+beside-follow : follow beside imageSize ofBeside ≡ true
+beside-follow = refl
+
+module _ (s : List ℕ) (long : length s ≡ machineSize) where
+  abbrev x : List ℕ
+  x = headOf s
+
+  pub head-is : x ≡ take imageSize s
+  unfolding headOf
+  head-is = rw (le-leb imageSize (length s) (omega (arith, long))) refl
+
+  -- another image in its place
+  pub put-is : (e : List ℕ) → length e ≡ imageSize → patched s 0 e ≡ e ++ drop imageSize s
+  put-is e h = rw (h, long) refl
+
+  pub whole : x ++ drop imageSize s ≡ s
+  whole = ap (λ (l : List ℕ). l ++ drop imageSize s) head-is ∙ take-append-drop imageSize s
+
+  -- what is read from the bytes is read from the image
+  pub place : (k : ℕ) → k < imageSize → byteAt s k ≡ byteAt x k
+  place k h = sym (ap (λ (l : List ℕ). getD l k 0) head-is ∙ getD-take imageSize s k 0 h)
+
+  places : (n k : ℕ) → k + n ≤ imageSize → span n s k ≡ span n x k
+  places zero k h = refl
+  places (suc n) k h = λ i. place k (omega (arith, h)) i ∷ places n (k + 1) (omega (arith, h)) i
+
+  numbers : (width start : ℕ) → start + width ≤ imageSize → numberAt width s start ≡ numberAt width x start
+  numbers zero k h = refl
+  numbers (suc zero) k h = place k (omega (arith, h))
+  numbers (suc (suc n)) k h = ap joined (places (suc (suc n)) k h)
+
+  pub same : (f : the.Field) → the.place f .start + the.place f .width ≤ imageSize → num s f ≡ num x f
+  same f h = numbers (the.place f .width) (the.place f .start) h

@@ -1,0 +1,83 @@
+-- The steps of reading and writing the machine's bytes and a cycle's answer, joined.
+use Prim.Native.Nat.{ℕ, _+_, _*_}
+use mathlib.Core.Bool.{Bool, true, false, _&&_}
+use mathlib.Core.List.{List, _++_}
+use mathlib.Core.Path.{_≡_, refl, sym, ap, _∙_}
+use native.Mathlib.Omega.{arith}
+use lib.Dec.{eqb}
+use Rattle.common.specs.Pick.{pick}
+use Rattle.bench.specs.Ring.{bench}
+use Rattle.bench.specs.declared.Bench.{Bench}
+use Rattle.bus.specs.declared.access.Log.{Log}
+use Rattle.decode.specs.Decode.{num, machineAt}
+use Rattle.fields.specs.Little.{le, field}
+use Rattle.fields.specs.Patch.{patched}
+use Rattle.image.specs.Encode.{encode}
+use Rattle.image.specs.Groups.{byte, flag}
+use Rattle.layout.specs.Layout as the
+use Rattle.ranges.specs.Entry.{entryOk}
+use Rattle.state.specs.declared.Machine.{Machine}
+use Rattle.wram.specs.Olds.{noOlds}
+use Rattle.wram.specs.declared.Olds.{Olds}
+use Rattle.asbytes.specs.Answer.{encAccesses, accessesPlace, answered}
+use Rattle.asbytes.specs.Machine.{headOf, broken, machineOf, benchOf, counted, stored, saved}
+use Rattle.asbytes.specs.Places as at
+use Rattle.asbytes.specs.Places.{beside, slotAt, countAt, lengthAt}
+
+-- ---- the machine read
+
+-- a number of eight bytes by its halves
+pub eight-halves : (l : List ℕ) (k : ℕ) → field 4 l (k + 4) * 4294967296 + field 4 l k ≡ field 8 l k
+eight-halves l k = let e : k + 1 + 1 + 1 + 1 ≡ k + 4 = omega arith in rw e (omega arith)
+
+module _ (e : List ℕ) {ok : Bool} {m : Machine} (p : ok ≡ entryOk e) (q : m ≡ machineAt e) where
+  abbrev sound : Bool → Bool
+  sound b = b && eqb (num e the.oldCount) 0
+
+  pub machine-by : sound ok ≡ true → m ≡ machineOf e
+  unfolding machineOf
+  machine-by t = q ∙ (λ i. pick ((sym t ∙ ap sound p) i) (machineAt e) (broken (machineAt e)))
+
+  pub broken-by : sound ok ≡ false → broken m ≡ machineOf e
+  unfolding machineOf
+  broken-by t = ap broken q ∙ (λ i. pick ((sym t ∙ ap sound p) i) (machineAt e) (broken (machineAt e)))
+
+pub bench-by : {e : List ℕ} {m : Machine} {a b c : ℕ} (s : List ℕ) → e ≡ headOf s → m ≡ machineOf e → a ≡ slotAt s → b ≡ countAt s → c ≡ lengthAt s
+    → bench m a b c ≡ benchOf s
+unfolding benchOf
+bench-by s p q x y z = λ i. bench ((q ∙ ap machineOf p) i) (x i) (y i) (z i)
+
+-- ---- and written
+
+pub put-by : (d : List ℕ) (at : ℕ) {d′ x y : List ℕ} → d′ ≡ patched d at x → x ≡ y → d′ ≡ patched d at y
+put-by d at p q = p ∙ ap (λ (z : List ℕ). patched d at z) q
+
+pub image-by : (s : List ℕ) (m : Machine) {e s′ : List ℕ} {o : Olds} → o ≡ noOlds → e ≡ encode m o → s′ ≡ patched s 0 e
+    → s′ ≡ patched s 0 (encode m noOlds)
+image-by s m p q r = put-by s 0 r (q ∙ ap (encode m) p)
+
+pub counted-by : (s : List ℕ) (slot kept room : ℕ) {x y z : List ℕ} → x ≡ patched s (beside at.slot .start) (le 8 slot)
+    → y ≡ patched x (beside at.kept .start) (le 8 kept) → z ≡ patched y (beside at.length .start) (le 8 room) → z ≡ counted s slot kept room
+unfolding counted
+counted-by s slot kept room p q r =
+    r ∙ (λ i. patched ((q ∙ (λ j. patched (p j) (beside at.kept .start) (le 8 kept))) i) (beside at.length .start) (le 8 room))
+
+pub stored-by : (s : List ℕ) (b : Bench) {w z : List ℕ} → w ≡ patched s 0 (encode (b .machine) noOlds)
+    → z ≡ counted w (b .slot) (b .kept) (b .length) → z ≡ stored b s
+unfolding stored
+stored-by s b p q = q ∙ ap (λ (l : List ℕ). counted l (b .slot) (b .kept) (b .length)) p
+
+pub saved-by : (s : List ℕ) (n : ℕ) (b : Bench) {s′ : List ℕ} → eqb n 0 ≡ true → s′ ≡ stored b s → s′ ≡ saved n b s
+unfolding saved
+saved-by s n b z p = rw z p
+
+pub left-as : (n : ℕ) (b : Bench) (s : List ℕ) → eqb n 0 ≡ false → s ≡ saved n b s
+unfolding saved
+left-as n b s z = rw z refl
+
+-- ---- the answer
+
+pub answered-by : (out : List ℕ) (held edge : Bool) (log : Log) {a b x : List ℕ} → a ≡ patched out 0 (flag held ++ flag edge ++ byte (log .count))
+    → x ≡ encAccesses (log .items) → b ≡ patched a accessesPlace x → b ≡ answered held edge log out
+unfolding answered
+answered-by out held edge log p q r = r ∙ (λ i. patched (p i) accessesPlace (q i))

@@ -1,0 +1,80 @@
+use Prim.Native.Nat.{ℕ, _-_, _≤_}
+use mathlib.Core.List.{List}
+use mathlib.Core.Path.{_≡_, refl}
+use native.Mathlib.Omega.{arith}
+use borrow.Author.Needs.{needs}
+use lib.ListN.{length, getD, replicate}
+use Rattle.fields.proofs.Patch.{Wrote, nothing}
+use Rattle.image.proofs.Rows.{row}
+use Rattle.image.specs.Groups.{rows}
+use Rattle.bus.specs.Access.{noAccess}
+use Rattle.bus.specs.declared.access.Access.{Access}
+use Rattle.asbytes.specs.Answer.{encAccess}
+use Rattle.asbytes.proofs.answer.accesses_bytes.Statement.{statement}
+use Rattle.asbytes.proofs.answer.accesses_bytes.Tie as tie
+
+-- the bytes of row k
+abbrev row-of : List Access → ℕ → List ℕ
+row-of l k = encAccess (getD l k noAccess)
+
+abbrev Inv-loop : tie.InvT-loop
+Inv-loop items b₀ i₀ b i = (i ≤ 11) × (Wrote (replicate 55 0) 0 (rows i (row-of items)) b × (length b ≡ 55))
+
+abbrev μ-loop : tie.MeasureT-loop
+μ-loop items b₀ i₀ b i = 11 - i
+
+loop-holds : tie.Need-loop-holds Inv-loop μ-loop
+loop-holds c = (omega arith, (nothing (replicate 55 0) 0, refl))
+
+mul-access-bytes : tie.Need-mul-access-bytes Inv-loop μ-loop
+mul-access-bytes c = omega arith
+
+array-copy-out-access-bytes : tie.Need-array-copy-out-access-bytes Inv-loop μ-loop
+array-copy-out-access-bytes c = omega arith
+
+access-bytes-requires : tie.Need-access-bytes-requires Inv-loop μ-loop
+access-bytes-requires c κs = search needs
+
+slice-aggregate-put : tie.Need-slice-aggregate-put Inv-loop μ-loop
+slice-aggregate-put c = search needs
+
+mul-put : tie.Need-mul-put Inv-loop μ-loop
+mul-put c = omega arith
+
+slice-aggregate-put-2 : tie.Need-slice-aggregate-put-2 Inv-loop μ-loop
+slice-aggregate-put-2 c = search needs
+
+put-requires : tie.Need-put-requires Inv-loop μ-loop
+put-requires c κs = search needs
+
+add-i : tie.Need-add-i Inv-loop μ-loop
+add-i c = omega arith
+
+loop-less : tie.Need-loop-less Inv-loop μ-loop
+loop-less c = omega arith
+
+loop-again : tie.Need-loop-again Inv-loop μ-loop
+loop-again c = (omega arith, (row 5 (c .before .before .before .before .before .before .before .loop .i) (row-of (c .before .before .before .before .before .before .before .before .args .t1)) (λ k. refl) (c .before .before .before .before .before .before .before .loop .inv .1 .0) (c .before .put .ensures) (c .before .before .before .before .access-bytes .ensures) (omega arith), search needs))
+
+returns : tie.Need-returns Inv-loop μ-loop
+returns c = let e : (c .before .loop .i) ≡ 11 = omega arith in
+    (rw e at (c .before .loop .inv .1 .0)) .is
+
+pub accesses-bytes-spec : {M : Type 1} → statement M
+accesses-bytes-spec =
+    tie.close
+    (tie.spec
+    Inv-loop
+    μ-loop
+    loop-holds
+    mul-access-bytes
+    array-copy-out-access-bytes
+    access-bytes-requires
+    slice-aggregate-put
+    mul-put
+    slice-aggregate-put-2
+    put-requires
+    add-i
+    loop-less
+    loop-again
+    returns)

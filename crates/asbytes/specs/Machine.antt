@@ -1,0 +1,54 @@
+-- The machine as it crosses to another language: its image without old bytes, then next slot, kept and record length.
+use Prim.Native.Nat.{ℕ}
+use mathlib.Core.Bool.{_&&_}
+use mathlib.Core.List.{List}
+use lib.Dec.{eqb, leb}
+use lib.ListN.{length, take, replicate}
+use Rattle.common.specs.Pick.{pick}
+use Rattle.bench.specs.Ring.{bench}
+use Rattle.bench.specs.declared.Bench.{Bench}
+use Rattle.decode.specs.Decode.{num, machineAt}
+use Rattle.fields.specs.Little.{le}
+use Rattle.fields.specs.Patch.{patched}
+use Rattle.image.specs.Encode.{encode}
+use Rattle.layout.specs.Layout as the
+use Rattle.layout.specs.Layout.{imageSize}
+use Rattle.ranges.specs.Entry.{entryOk}
+use Rattle.state.specs.declared.Machine.{Machine}
+use Rattle.wram.specs.Olds.{noOlds}
+use Rattle.asbytes.specs.Places as at
+use Rattle.asbytes.specs.Places.{beside, slotAt, countAt, lengthAt}
+
+-- the image that the first bytes are; zeros, which no image is, where there are too few
+unfoldable pub headOf : List ℕ → List ℕ
+headOf s = pick (leb imageSize (length s)) (take imageSize s) (replicate imageSize 0)
+
+-- a machine that breaks the ranges: bit cycles 0
+abbrev pub broken : Machine → Machine
+broken m =
+    record {
+      io = m .io;
+      dma = m .dma;
+      board = record { pad1 = m .board .pad1; pad2 = m .board .pad2; nmi = m .board .nmi; bitcycles = 0; clock = m .board .clock };
+    }
+
+-- the machine of an image; bytes that are no image, or carry old bytes, give one that every call refuses
+unfoldable pub machineOf : List ℕ → Machine
+machineOf e = pick (entryOk e && eqb (num e the.oldCount) 0) (machineAt e) (broken (machineAt e))
+
+-- what the bytes stand for; a byte past the end reads 0
+unfoldable pub benchOf : List ℕ → Bench
+benchOf s = bench (machineOf (headOf s)) (slotAt s) (countAt s) (lengthAt s)
+
+-- the numbers beside the image laid over the bytes
+unfoldable pub counted : List ℕ → (slot kept length : ℕ) → List ℕ
+counted s slot kept length =
+    patched (patched (patched s (beside at.slot .start) (le 8 slot)) (beside at.kept .start) (le 8 kept)) (beside at.length .start) (le 8 length)
+
+-- a machine laid over the bytes
+unfoldable pub stored : Bench → List ℕ → List ℕ
+stored b s = counted (patched s 0 (encode (b .machine) noOlds)) (b .slot) (b .kept) (b .length)
+
+-- an accepted call leaves its machine, a refused one every byte as it was
+unfoldable pub saved : ℕ → Bench → List ℕ → List ℕ
+saved number b s = pick (eqb number 0) (stored b s) s

@@ -1,0 +1,40 @@
+-- Where the machine's bytes are (docs/PLAYER.md): its image without old bytes, then the numbers beside it.
+use Prim.Native.Nat.{ℕ, _+_}
+use mathlib.Core.Bool.{false}
+use mathlib.Core.List.{List, [], _∷_}
+use Rattle.fields.specs.Table.{Place, taken}
+use Rattle.layout.specs.Layout.{imageSize}
+
+-- the numbers beside the image: next slot, kept, record length
+pub data Beside : Type 0 where
+  slot kept length : Beside
+
+-- so many bytes behind the image, 8 bytes each
+abbrev behind : ℕ → Place
+behind k = record { start = imageSize + k; width = 8; flag = false }
+
+-- where each stands
+abbrev pub beside : Beside → Place
+beside slot = behind 0
+beside kept = behind 8
+beside length = behind 16
+
+-- all of them, in their order
+abbrev pub ofBeside : List Beside
+ofBeside = slot ∷ kept ∷ length ∷ []
+
+-- how many bytes a machine has
+abbrev pub machineSize : ℕ
+machineSize = beside length .start + beside length .width
+
+-- the next slot of the record
+abbrev pub slotAt : List ℕ → ℕ
+slotAt s = taken beside s slot
+
+-- how many entries it keeps
+abbrev pub countAt : List ℕ → ℕ
+countAt s = taken beside s kept
+
+-- its length in bytes
+abbrev pub lengthAt : List ℕ → ℕ
+lengthAt s = taken beside s length

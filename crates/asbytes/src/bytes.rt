@@ -1,0 +1,136 @@
+// The machine to and from its bytes.
+ghost use mathlib.Core.Path.{_≡_};
+ghost use denote.Ref.{now};
+ghost use Rattle.asbytes.specs.Machine.{headOf, machineOf, benchOf, counted, stored, saved};
+ghost use Rattle.asbytes.specs.Places.{slotAt, countAt, lengthAt};
+ghost use Rattle.fields.specs.Little.{le, field};
+ghost use Rattle.fields.specs.Patch.{patched};
+ghost use Rattle.image.specs.Encode.{encode};
+ghost use Rattle.wram.specs.Olds.{noOlds};
+use crate::KEPT;
+use crate::LENGTH;
+use crate::SLOT;
+use bench::Bench;
+use benchfile::word::four;
+use decode::machine_at;
+use fields::eight_bytes;
+use fields::put;
+use image::entry_bytes;
+use layout::IMAGE_SIZE;
+use layout::OLD_COUNT;
+use ranges::entry::entry_ok;
+use state::Machine;
+use wram::no_olds;
+
+// The image that the first bytes are; zeros, where there are too few.
+pub fn head_bytes(s: &[u8]) -> [u8; IMAGE_SIZE]
+    ensures { λ r. ⌜ r ≡ headOf (now (s .entry)) ⌝ }
+{
+    let mut e = [0u8; IMAGE_SIZE];
+    if IMAGE_SIZE <= s.len() {
+        put(&mut e, 0, &s[0..IMAGE_SIZE]);
+        return e;
+    }
+    e
+}
+
+// Bytes that are no image, or carry old bytes, give a machine that every call refuses by 4.
+fn machine_of(e: [u8; IMAGE_SIZE]) -> Machine
+    ensures { λ r. ⌜ r ≡ machineOf e ⌝ }
+{
+    let ok = entry_ok(e);
+    let m = machine_at(e);
+    if ok & (e[OLD_COUNT] == 0) {
+        return m;
+    }
+    let mut o = m;
+    o.board.bitcycles = 0;
+    o
+}
+
+// The number in eight bytes; a byte past the end reads 0.
+pub fn eight(s: &[u8], at: usize) -> u64
+    ensures { λ r. ⌜ r ≡ field 8 (now (s .entry)) at ⌝ }
+{
+    if s.len() <= at {
+        return 0;
+    }
+    let low = four(s, at);
+    let high = four(s, at + 4);
+    high as u64 * 4294967296 + low as u64
+}
+
+pub fn slot_at(s: &[u8]) -> usize
+    ensures { λ r. ⌜ r ≡ slotAt (now (s .entry)) ⌝ }
+{
+    eight(s, SLOT) as usize
+}
+
+pub fn kept_at(s: &[u8]) -> usize
+    ensures { λ r. ⌜ r ≡ countAt (now (s .entry)) ⌝ }
+{
+    eight(s, KEPT) as usize
+}
+
+pub fn length_at(s: &[u8]) -> usize
+    ensures { λ r. ⌜ r ≡ lengthAt (now (s .entry)) ⌝ }
+{
+    eight(s, LENGTH) as usize
+}
+
+pub fn bench_of(s: &[u8]) -> Bench
+    ensures { λ r. ⌜ r ≡ benchOf (now (s .entry)) ⌝ }
+{
+    let e = head_bytes(s);
+    let m = machine_of(e);
+    let slot = slot_at(s);
+    let kept = kept_at(s);
+    let length = length_at(s);
+    Bench {
+        machine: m,
+        slot: slot,
+        kept: kept,
+        length: length,
+    }
+}
+
+pub fn put_eight(s: &mut [u8], at: usize, n: usize)
+    ensures { λ _. ⌜ now (s .exit) ≡ patched (now (s .entry)) at (le 8 n) ⌝ }
+{
+    let b = eight_bytes(n as u64);
+    put(s, at, &b);
+}
+
+// Next slot, kept and record length.
+pub fn put_counts(s: &mut [u8], slot: usize, kept: usize, length: usize)
+    ensures { λ _. ⌜ now (s .exit) ≡ counted (now (s .entry)) slot kept «length» ⌝ }
+{
+    put_eight(s, SLOT, slot);
+    put_eight(s, KEPT, kept);
+    put_eight(s, LENGTH, length);
+}
+
+fn put_machine(s: &mut [u8], m: Machine)
+    ensures { λ _. ⌜ now (s .exit) ≡ patched (now (s .entry)) 0 (encode m noOlds) ⌝ }
+{
+    let olds = no_olds();
+    let e = entry_bytes(m, olds);
+    put(s, 0, &e);
+}
+
+pub fn store(s: &mut [u8], b: Bench)
+    ensures { λ _. ⌜ now (s .exit) ≡ stored b (now (s .entry)) ⌝ }
+{
+    let m = b.machine;
+    put_machine(s, m);
+    put_counts(s, b.slot, b.kept, b.length);
+}
+
+// An accepted call leaves its machine, a refused one every byte as it was.
+pub fn save(s: &mut [u8], number: u8, b: Bench)
+    ensures { λ _. ⌜ now (s .exit) ≡ saved number b (now (s .entry)) ⌝ }
+{
+    if number == 0 {
+        store(s, b);
+    }
+}

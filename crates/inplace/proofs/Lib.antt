@@ -1,0 +1,4 @@
+pub mod RestJoin
+pub mod RestLaws
+pub mod OneByteJoin
+pub mod OneByteLaws

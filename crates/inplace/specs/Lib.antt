@@ -1,0 +1,3 @@
+-- Cycles made on the machine's bytes where they stand.
+pub mod Rest
+pub mod OneByte

@@ -1,0 +1,3 @@
+-- Which way a cycle goes, by the machine's bytes.
+pub mod Seen
+pub mod Way

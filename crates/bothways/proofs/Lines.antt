@@ -13,7 +13,7 @@ use Rattle.fields.specs.Bytes.{partOf}
 use Rattle.common.specs.Width.{Bytes}
 use Rattle.benchfile.specs.Row.{formedRow, rowBytes}
 use Rattle.benchfile.specs.File.{scriptFormed}
-use Rattle.benchfile.proofs.Parts.{part-bytes}
+use Rattle.fields.proofs.Parts.{part-bytes}
 use Rattle.benchfile.proofs.Rows.{script}
 use Rattle.reader.specs.Letter.{signOf, digitOf}
 use Rattle.reader.specs.Word.{word, letterOf, dollarOf, worthOf}

@@ -11,7 +11,7 @@ use Rattle.fields.specs.Bytes.{byteAt, partOf}
 use Rattle.common.specs.Width.{Bytes}
 use Rattle.benchfile.specs.Row.{formedRow, rowBytes}
 use Rattle.benchfile.specs.File.{scriptFormed}
-use Rattle.benchfile.proofs.Parts.{part-bytes}
+use Rattle.fields.proofs.Parts.{part-bytes}
 use Rattle.benchfile.proofs.Rows.{script}
 use Rattle.reader.specs.declared.reader.Reader.{Reader}
 use Rattle.reader.specs.Reader.{startOf, readOf, reads}

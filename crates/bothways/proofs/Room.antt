@@ -14,7 +14,7 @@ use Rattle.fields.specs.Bytes.{byteAt, partOf}
 use Rattle.common.specs.Width.{Bytes}
 use Rattle.fields.specs.Little.{field}
 use Rattle.benchfile.specs.Row.{rowBytes}
-use Rattle.benchfile.proofs.Parts.{part-bytes}
+use Rattle.fields.proofs.Parts.{part-bytes}
 use Rattle.append.proofs.Decimal.{short}
 use Rattle.append.specs.Number.{decimal}
 use Rattle.lister.specs.Body.{bytesText, lineText, linesFrom, linesText}

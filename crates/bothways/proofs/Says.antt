@@ -14,7 +14,7 @@ use Rattle.common.specs.Width.{Bytes}
 use Rattle.fields.specs.Little.{field}
 use Rattle.benchfile.specs.File.{scriptFormed}
 use Rattle.benchfile.proofs.Numbers.{lo-back, hi-back}
-use Rattle.benchfile.proofs.Parts.{listed}
+use Rattle.fields.proofs.Parts.{listed}
 use Rattle.reader.specs.Reader as reading
 use Rattle.lister.specs.Body.{linesText}
 use Rattle.lister.specs.List.{settingsText, scriptText}

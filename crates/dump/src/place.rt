@@ -2,8 +2,8 @@
 ghost use mathlib.Core.Path.{_≡_};
 ghost use denote.Ref.{now};
 ghost use Rattle.dump.specs.Place.{pairOf, offsetOf, sixOf, bareOf, offsetNamed};
-use benchfile::part::part;
-use benchfile::word::byte;
+use fields::part::part;
+use fields::word::byte;
 use reader::letter::digit;
 
 // The number of two digits in base 16; 256 where one of them is none.

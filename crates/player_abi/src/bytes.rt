@@ -7,13 +7,13 @@ ghost use Rattle.fields.specs.Patch.{patched};
 ghost use Rattle.player_abi.specs.Bytes.{machineOf, benchOf, stored, saved};
 ghost use Rattle.wram.specs.Olds.{noOlds};
 use bench::Bench;
-use benchfile::word::byte;
 use entry::Entry;
 use entry::read_entry;
 use entry::write_entry;
 use fields::eight_bytes;
 use fields::join8;
 use fields::put;
+use fields::word::byte;
 use state::Machine;
 use wram::no_olds;
 

@@ -16,10 +16,10 @@ use crate::way::line_at;
 use crate::way::wait_at;
 use bench::ring::more_kept;
 use bench::ring::slot_after;
-use benchfile::word::byte;
 use entry::slot_bytes;
 use fields::four_bytes;
 use fields::put;
+use fields::word::byte;
 use image::ENTRY_SIZE;
 
 // The bytes of an entry into a slot; nothing, where the record has no such slot.

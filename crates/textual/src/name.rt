@@ -3,7 +3,7 @@ ghost use mathlib.Core.Path.{_≡_};
 ghost use denote.Ref.{now};
 ghost use Rattle.textual.specs.Name.{nameOf};
 use crate::mark::marks_in;
-use benchfile::part::part;
+use fields::part::part;
 
 // Empty where no name stands.
 pub fn name_in(text: &[u8], at: usize) -> &[u8]

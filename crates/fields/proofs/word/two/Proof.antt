@@ -1,5 +1,5 @@
 use mathlib.Core.Path.{sym}
-use Rattle.fields.proofs.Parts.{field-none, two-word}
+use Rattle.fields.proofs.Parts.{field-none}
 use borrow.Author.Needs.{needs}
 use Rattle.fields.proofs.word.two.Statement.{statement}
 use Rattle.fields.proofs.word.two.Tie as tie
@@ -16,12 +16,12 @@ add-byte c = search needs
 byte-requires-2 : tie.Need-byte-requires-2
 byte-requires-2 c κs = search needs
 
-join-requires : tie.Need-join-requires
-join-requires c κs = search needs
+join2-requires : tie.Need-join2-requires
+join2-requires c κs = search needs
 
 returns-2 : tie.Need-returns-2
-returns-2 c = simp (c .join .ensures, c .before .byte2 .ensures, c .before .before .byte .ensures) (two-word (c .before .before .before .before .before .args .s .now) (c .before .before .before .before .before .args .at))
+returns-2 c = simp (c .join2 .ensures, c .before .byte2 .ensures, c .before .before .byte .ensures)
 
 pub two-spec : {M : Type 1} → statement M
 two-spec =
-    tie.close (tie.spec returns byte-requires add-byte byte-requires-2 join-requires returns-2)
+    tie.close (tie.spec returns byte-requires add-byte byte-requires-2 join2-requires returns-2)

@@ -18,7 +18,7 @@ use Rattle.append.specs.Texts.{codes}
 use Rattle.lister.specs.Body.{bytesText}
 use Rattle.assembler.specs.Desk.{State, frontOf, romOf, scriptOf, stepped, runs, made, added}
 use Rattle.bothways.proofs.Quietly.{quietly, quietly-runs, one}
-use Rattle.bothways.proofs.Digits.{byte-2}
+use Rattle.bothways.proofs.Digits.{plain, byte-first}
 use Rattle.bothways.proofs.Rows.{before}
 
 pub data Section : Type 0 where
@@ -140,7 +140,7 @@ gain-gain rom r f o s x l = refl
 -- the two digits behind `$`
 pub digits : (b : Section) (x z : ℕ) → z < 256 → quietly (dollarRead b x) (glyphOf (z / 16) ∷ glyphOf z ∷ []) ≡ byteRead b false z x
 unfolding quietly
-digits b x z h = byte-2 (late b) (moreOf b) (kindOf b) x 0 0 0 [] 0 z h
+digits b x z h = byte-first (late b) (moreOf b) (kindOf b) x 0 0 0 plain [] 0 z h
 
 -- one byte more
 module _ (file : List ℕ) (b : Section) (i : Bool) (f o s : Sheet) (x y z : ℕ) (lx : x < 256) (lz : z < 256) (t : List ℕ) where

@@ -15,7 +15,7 @@ use Rattle.bothways.proofs.Quietly.{quietly}
 use Rattle.append.specs.Number.{glyphOf, decimal}
 use Rattle.append.specs.Texts.{codes}
 use Rattle.lister.specs.Row.{wordText, padText, plugText, backText}
-use Rattle.bothways.proofs.Digits.{byte-2, byte-3}
+use Rattle.bothways.proofs.Digits.{plain, byte-first, byte-more}
 use Rattle.bothways.proofs.Decimal.{decimal-back}
 use Rattle.bothways.proofs.Rows.{Open, before, at, pad-row, plug-row, back-row, row-word}
 
@@ -82,8 +82,8 @@ module _ (n : ℕ) (l : n < 256) where
       row-word k x₁ x₂ x₃ x₄ (decimal n ++ wordText a h) p o pad-row
       ∙ decimal-back 4 6 4 0 0 0 0 n (wordText a h) (omega arith)
       ∙ pad-dollar (glyphOf (h / 16) ∷ glyphOf h ∷ glyphOf (a / 16) ∷ glyphOf a ∷ 10 ∷ [])
-      ∙ byte-2 4 7 4 n 0 0 0 (glyphOf (a / 16) ∷ glyphOf a ∷ 10 ∷ []) 0 h lh
-      ∙ byte-3 4 7 4 n 0 0 0 (codes "\n") h 0 a (omega arith) la
+      ∙ byte-first 4 7 4 n 0 0 0 plain (glyphOf (a / 16) ∷ glyphOf a ∷ 10 ∷ []) 0 h lh
+      ∙ byte-more 4 7 4 n 0 0 0 plain (codes "\n") h 0 a (omega arith) la
       ∙ pad-end a h la lh
 
   -- the port of a plug row

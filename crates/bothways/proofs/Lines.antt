@@ -26,7 +26,7 @@ use Rattle.lister.specs.Row.{rowText}
 use Rattle.lister.specs.List.{rowsText, scriptText}
 use Rattle.assembler.specs.Desk.{State, stepped, runs, made}
 use Rattle.bothways.proofs.Quietly.{quietly}
-use Rattle.bothways.proofs.Digits.{byte-2}
+use Rattle.bothways.proofs.Digits.{plain, byte-first}
 use Rattle.bothways.proofs.Rows.{Open, rows, before}
 use Rattle.bothways.proofs.Between.{Rest, line-runs, row-line}
 use lib.Dec.{eqb}
@@ -54,7 +54,7 @@ module _ (k x₁ x₂ x₃ x₄ : ℕ) (z : ℕ) (lz : z < 256) where
   unfolding quietly
   opening b a =
       word-dollar b a (glyphOf (z / 16) ∷ glyphOf z ∷ [])
-      ∙ byte-2 (late b) (firstOf b) (kindOf b) 0 0 0 0 [] 0 z lz
+      ∙ byte-first (late b) (firstOf b) (kindOf b) 0 0 0 0 plain [] 0 z lz
 
 -- the first character of the word, and the others
 abbrev pub head : Section → ℕ

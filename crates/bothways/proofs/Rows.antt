@@ -17,7 +17,7 @@ use Rattle.bothways.proofs.Quietly.{calm, quietly}
 use Rattle.append.specs.Number.{glyphOf}
 use Rattle.append.specs.Texts.{codes}
 use Rattle.lister.specs.Row.{readText, writeText, answerText}
-use Rattle.bothways.proofs.Digits.{byte-2, byte-3, byte-4, byte-5}
+use Rattle.bothways.proofs.Digits.{plain, banked, byte-first, byte-more}
 
 -- the phases in which rows may come
 pub data Open : ℕ → Type 0 where
@@ -70,9 +70,9 @@ module _ (s k b l h : ℕ) (t : List ℕ) (lb : b < 256) (ll : l < 256) (lh : h 
       ≡ quietly (reader (word 5 (h * 256 + l) b) (draft 4 s k 0 0 0 0 0)) t
   unfolding quietly readOf stepOf plainOf signOf dollarOf colonOf
   address =
-      byte-2 4 s k 0 0 0 0 (58 ∷ glyphOf (h / 16) ∷ glyphOf h ∷ glyphOf (l / 16) ∷ glyphOf l ∷ t) 0 b lb
-      ∙ byte-4 4 s k 0 0 0 0 (glyphOf (l / 16) ∷ glyphOf l ∷ t) b h lh
-      ∙ byte-5 4 s k 0 0 0 0 t h b l (omega arith) ll
+      byte-first 4 s k 0 0 0 0 plain (58 ∷ glyphOf (h / 16) ∷ glyphOf h ∷ glyphOf (l / 16) ∷ glyphOf l ∷ t) 0 b lb
+      ∙ byte-first 4 s k 0 0 0 0 banked (glyphOf (l / 16) ∷ glyphOf l ∷ t) b h lh
+      ∙ byte-more 4 s k 0 0 0 0 banked t h b l (omega arith) ll
 
 -- `= $` behind an address
 module _ (r : Reader) (k b l h : ℕ) (t : List ℕ) where
@@ -153,7 +153,7 @@ module _ (b l h : ℕ) (lb : b < 256) (ll : l < 256) (lh : h < 256) where
       row-word k x₁ x₂ x₃ x₄ rest p o write-row
       ∙ address 16 3 b l h end lb ll lh
       ∙ write-middle (glyphOf (x / 16) ∷ glyphOf x ∷ 10 ∷ [])
-      ∙ byte-2 4 5 3 b l h 0 (codes "\n") 0 x lx
+      ∙ byte-first 4 5 3 b l h 0 plain (codes "\n") 0 x lx
       ∙ byte-end 3 b x write lx
 
   answer-space : readOf (reader (word 3 (h * 256 + l) 0) (draft 4 8 6 0 0 0 0 0)) 32 ≡ reader (blankWord 0) (draft 4 5 6 0 l h 0 0)
@@ -182,8 +182,8 @@ module _ (b l h : ℕ) (lb : b < 256) (ll : l < 256) (lh : h < 256) where
       let digits : List ℕ = glyphOf (h / 16) ∷ glyphOf h ∷ glyphOf (l / 16) ∷ glyphOf l ∷ end in
       row-word k x₁ x₂ x₃ x₄ (36 ∷ digits) p o answer-row
       ∙ answer-dollar digits
-      ∙ byte-2 4 8 6 0 0 0 0 (glyphOf (l / 16) ∷ glyphOf l ∷ end) 0 h lh
-      ∙ byte-3 4 8 6 0 0 0 0 end h 0 l (omega arith) ll
+      ∙ byte-first 4 8 6 0 0 0 0 plain (glyphOf (l / 16) ∷ glyphOf l ∷ end) 0 h lh
+      ∙ byte-more 4 8 6 0 0 0 0 plain end h 0 l (omega arith) ll
       ∙ answer-middle (glyphOf (x / 16) ∷ glyphOf x ∷ 10 ∷ [])
-      ∙ byte-2 4 5 6 0 l h 0 (codes "\n") 0 x lx
+      ∙ byte-first 4 5 6 0 l h 0 plain (codes "\n") 0 x lx
       ∙ byte-end 6 0 x answer lx

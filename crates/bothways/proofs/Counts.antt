@@ -23,9 +23,8 @@ use Rattle.bothways.proofs.Rows.{Open, before, at, pad-row, plug-row, b
 back-end : (n : ℕ) → 1 ≤ n → n < 65536 → quietly (reader (word 6 n 0) (draft 4 15 7 0 0 0 0 0)) (codes "\n") ≡ before 4 7 (n % 256) (n / 256) 0 0 3
 unfolding quietly readOf stepOf signOf shutOf takenOf numberOf worthOf lineOf closingOf
 back-end n f l =
-    let m : n ≤ 65535 = omega arith in
     let q : n / 256 % 256 ≡ n / 256 = omega arith in
-    rw (le-leb 1 n f, le-leb n 65535 m, q)
+    rw (le-leb 1 n f, le-leb n 65535 (omega arith), q)
 
 -- a back row comes back
 pub back-back : (n : ℕ) → 1 ≤ n → n < 65536 → (k x₁ x₂ x₃ x₄ : ℕ) → (p : ℕ) → Open p
@@ -50,10 +49,8 @@ module _ (n : ℕ) (l : n < 256) where
   pad-space : readOf (reader (word 6 n 0) (draft 4 6 4 0 0 0 0 0)) 32 ≡ at 7 4 n 0 0 0
   unfolding readOf stepOf signOf spacedOf shutOf takenOf numberOf worthOf
   pad-space =
-      let z : 0 ≤ n = omega arith in
-      let m : n ≤ 255 = omega arith in
       let q : n % 256 ≡ n = omega arith in
-      rw (le-leb 0 n z, le-leb n 255 m, q)
+      rw (le-leb 0 n (omega arith), le-leb n 255 (omega arith), q)
 
   pad-sign : (t : List ℕ) → quietly (at 7 4 n 0 0 0) (36 ∷ t) ≡ quietly (reader (word 2 0 0) (draft 4 7 4 n 0 0 0 0)) t
   unfolding quietly readOf stepOf plainOf signOf dollarOf
@@ -67,12 +64,10 @@ module _ (n : ℕ) (l : n < 256) where
   pad-end : (a h : ℕ) → a < 256 → h < 256 → quietly (reader (word 3 (h * 256 + a) 0) (draft 4 7 4 n 0 0 0 0)) (codes "\n") ≡ before 4 4 n a h 0 3
   unfolding quietly readOf stepOf signOf shutOf takenOf numberOf worthOf lineOf closingOf
   pad-end a h la lh =
-      let z : 0 ≤ h * 256 + a = omega arith in
-      let m : h * 256 + a ≤ 65535 = omega arith in
       let q : (h * 256 + a) / 256 ≡ h = omega arith in
       let u : (h * 256 + a) % 256 ≡ a = omega arith in
       let v : h % 256 ≡ h = omega arith in
-      rw (le-leb 0 (h * 256 + a) z, le-leb (h * 256 + a) 65535 m, u, q, v)
+      rw (le-leb 0 (h * 256 + a) (omega arith), le-leb (h * 256 + a) 65535 (omega arith), u, q, v)
 
   -- a pad row comes back
   pub pad-back : (a h k x₁ x₂ x₃ x₄ : ℕ) → a < 256 → h < 256 → (p : ℕ) → Open p
@@ -90,10 +85,8 @@ module _ (n : ℕ) (l : n < 256) where
   plug-space : readOf (reader (word 6 n 0) (draft 4 17 5 0 0 0 0 0)) 32 ≡ at 9 5 n 0 0 0
   unfolding readOf stepOf signOf spacedOf shutOf takenOf numberOf worthOf
   plug-space =
-      let z : 0 ≤ n = omega arith in
-      let m : n ≤ 255 = omega arith in
       let q : n % 256 ≡ n = omega arith in
-      rw (le-leb 0 n z, le-leb n 255 m, q)
+      rw (le-leb 0 n (omega arith), le-leb n 255 (omega arith), q)
 
   -- on, off
   switch : (b : Bool) → quietly (at 9 5 n 0 0 0) (onOff b) ≡ before 4 5 n (bit b) 0 0 3

@@ -57,16 +57,14 @@ module _ (n : ℕ) (f1 : 1 ≤ n) (ln : n < 65536) where
   count-space : readOf counted 32 ≡ at 2 1 (n % 256) (n / 256) 0 0
   unfolding readOf stepOf signOf spacedOf shutOf takenOf numberOf worthOf
   count-space =
-      let m : n ≤ 65535 = omega arith in
       let q : n / 256 % 256 ≡ n / 256 = omega arith in
-      rw (le-leb 1 n f1, le-leb n 65535 m, q)
+      rw (le-leb 1 n f1, le-leb n 65535 (omega arith), q)
 
   count-end : readOf counted 10 ≡ before 4 1 (n % 256) (n / 256) 0 0 3
   unfolding readOf stepOf signOf shutOf takenOf numberOf worthOf lineOf closingOf
   count-end =
-      let m : n ≤ 65535 = omega arith in
       let q : n / 256 % 256 ≡ n / 256 = omega arith in
-      rw (le-leb 1 n f1, le-leb n 65535 m, q)
+      rw (le-leb 1 n f1, le-leb n 65535 (omega arith), q)
 
 -- the event and what may follow it
 module _ (l h v : ℕ) (lv : v < 256) where
@@ -76,18 +74,14 @@ module _ (l h v : ℕ) (lv : v < 256) where
   event-space : readOf timed 32 ≡ at 2 1 l h v 0
   unfolding readOf stepOf signOf spacedOf shutOf takenOf numberOf worthOf
   event-space =
-      let z : 0 ≤ v = omega arith in
-      let m : v ≤ 255 = omega arith in
       let q : v % 256 ≡ v = omega arith in
-      rw (le-leb 0 v z, le-leb v 255 m, q)
+      rw (le-leb 0 v (omega arith), le-leb v 255 (omega arith), q)
 
   event-end : readOf timed 10 ≡ before 4 1 l h v 0 3
   unfolding readOf stepOf signOf shutOf takenOf numberOf worthOf lineOf closingOf
   event-end =
-      let z : 0 ≤ v = omega arith in
-      let m : v ≤ 255 = omega arith in
       let q : v % 256 ≡ v = omega arith in
-      rw (le-leb 0 v z, le-leb v 255 m, q)
+      rw (le-leb 0 v (omega arith), le-leb v 255 (omega arith), q)
 
   event-word : (t : List ℕ) → quietly (at 2 1 l h 0 0) (codes "event " ++ t) ≡ quietly (at 3 1 l h 0 0) t
   unfolding quietly readOf stepOf plainOf letterOf signOf digitOf spacedOf shutOf takenOf namedOf optionOf worthOf

@@ -101,11 +101,7 @@ module _ (b l h : ℕ) (lb : b < 256) (ll : l < 256) (lh : h < 256) where
   read-end : quietly (reader (word 5 (h * 256 + l) b) (draft 4 4 2 0 0 0 0 0)) (codes "\n") ≡ before 4 2 b l h 0 3
   unfolding quietly readOf stepOf signOf shutOf takenOf numberOf worthOf lineOf closingOf
   read-end =
-      let f : b ≤ 255 = omega arith in
-      let g : h * 256 + l ≤ 65535 = omega arith in
-      let z : 0 ≤ whole = omega arith in
-      let m : whole ≤ 16777215 = omega arith in
-      rw (le-leb b 255 f, le-leb (h * 256 + l) 65535 g, le-leb 0 whole z, le-leb whole 16777215 m, low, mid, high)
+      rw (le-leb b 255 (omega arith), le-leb (h * 256 + l) 65535 (omega arith), le-leb 0 whole (omega arith), le-leb whole 16777215 (omega arith), low, mid, high)
 
   -- a read row comes back
   pub read-back : (k x₁ x₂ x₃ x₄ : ℕ) → (p : ℕ) → Open p
@@ -120,11 +116,7 @@ module _ (b l h : ℕ) (lb : b < 256) (ll : l < 256) (lh : h < 256) where
   write-space : readOf (reader (word 5 (h * 256 + l) b) (draft 4 16 3 0 0 0 0 0)) 32 ≡ reader (blankWord 0) (draft 4 5 3 b l h 0 0)
   unfolding readOf stepOf signOf spacedOf shutOf takenOf numberOf worthOf
   write-space =
-      let f : b ≤ 255 = omega arith in
-      let g : h * 256 + l ≤ 65535 = omega arith in
-      let z : 0 ≤ whole = omega arith in
-      let m : whole ≤ 16777215 = omega arith in
-      rw (le-leb b 255 f, le-leb (h * 256 + l) 65535 g, le-leb 0 whole z, le-leb whole 16777215 m, low, mid, high)
+      rw (le-leb b 255 (omega arith), le-leb (h * 256 + l) 65535 (omega arith), le-leb 0 whole (omega arith), le-leb whole 16777215 (omega arith), low, mid, high)
 
   write-middle : (t : List ℕ) → quietly (reader (word 5 (h * 256 + l) b) (draft 4 16 3 0 0 0 0 0)) (codes " = $" ++ t)
       ≡ quietly (reader (word 2 0 0) (draft 4 5 3 b l h 0 0)) t
@@ -134,15 +126,11 @@ module _ (b l h : ℕ) (lb : b < 256) (ll : l < 256) (lh : h < 256) where
   byte-end : (kind first x : ℕ) → Row kind → x < 256 → quietly (reader (word 3 x 0) (draft 4 5 kind first l h 0 0)) (codes "\n") ≡ before 4 kind first l h x 3
   unfolding quietly readOf stepOf signOf shutOf takenOf numberOf worthOf lineOf closingOf
   byte-end kind first x write lx =
-      let z : 0 ≤ x = omega arith in
-      let m : x ≤ 255 = omega arith in
       let w : x % 256 ≡ x = omega arith in
-      rw (le-leb 0 x z, le-leb x 255 m, w)
+      rw (le-leb 0 x (omega arith), le-leb x 255 (omega arith), w)
   byte-end kind first x answer lx =
-      let z : 0 ≤ x = omega arith in
-      let m : x ≤ 255 = omega arith in
       let w : x % 256 ≡ x = omega arith in
-      rw (le-leb 0 x z, le-leb x 255 m, w)
+      rw (le-leb 0 x (omega arith), le-leb x 255 (omega arith), w)
 
   -- a write row comes back
   pub write-back : (x k x₁ x₂ x₃ x₄ : ℕ) → x < 256 → (p : ℕ) → Open p
@@ -159,12 +147,10 @@ module _ (b l h : ℕ) (lb : b < 256) (ll : l < 256) (lh : h < 256) where
   answer-space : readOf (reader (word 3 (h * 256 + l) 0) (draft 4 8 6 0 0 0 0 0)) 32 ≡ reader (blankWord 0) (draft 4 5 6 0 l h 0 0)
   unfolding readOf stepOf signOf spacedOf shutOf takenOf numberOf worthOf
   answer-space =
-      let z : 0 ≤ h * 256 + l = omega arith in
-      let m : h * 256 + l ≤ 65535 = omega arith in
       let q : (h * 256 + l) / 256 ≡ h = omega arith in
       let u : (h * 256 + l) % 256 ≡ l = omega arith in
       let v : h % 256 ≡ h = omega arith in
-      rw (le-leb 0 (h * 256 + l) z, le-leb (h * 256 + l) 65535 m, u, q, v)
+      rw (le-leb 0 (h * 256 + l) (omega arith), le-leb (h * 256 + l) 65535 (omega arith), u, q, v)
 
   answer-middle : (t : List ℕ) → quietly (reader (word 3 (h * 256 + l) 0) (draft 4 8 6 0 0 0 0 0)) (codes " = $" ++ t)
       ≡ quietly (reader (word 2 0 0) (draft 4 5 6 0 l h 0 0)) t

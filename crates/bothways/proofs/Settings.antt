@@ -29,10 +29,8 @@ module _ (n : ℕ) (small : n < 65536) where
   settings-end : quietly (reader (word 6 n 0) (draft 1 10 8 0 0 0 0 0)) (codes "\n") ≡ before 1 8 (n % 256) (n / 256) 0 0 2
   unfolding quietly readOf stepOf signOf shutOf takenOf numberOf worthOf lineOf closingOf
   settings-end =
-      let z : 0 ≤ n = omega arith in
-      let m : n ≤ 65535 = omega arith in
       let q : n / 256 % 256 ≡ n / 256 = omega arith in
-      rw (le-leb 0 n z, le-leb n 65535 m, q)
+      rw (le-leb 0 n (omega arith), le-leb n 65535 (omega arith), q)
 
   -- the settings come back
   pub settings-back : quietly startOf (settingsText n) ≡ before 1 8 (n % 256) (n / 256) 0 0 2

@@ -44,15 +44,11 @@ same-length c = search needs
 
 returns : tie.Need-returns
 returns c =
-    let at-finish = c .before .before in
-    let at-part3 = at-finish .before .before in
-    let at-part2 = at-part3 .before .before in
-    let at-part = at-part2 .before .before in
-    let at-if1 = at-part .before .before in
-    let at-ready = at-if1 .before in
+    let at-part2 = c .before .before .before .before .before .before in
+    let at-ready = at-part2 .before .before .before .before .before in
     let at-gather = at-ready .before .before .before .before .before in
-    assembled-ready _ _ _ _ (said-by _ _ (at-gather .gather .ensures)) (at-ready .ready .ensures) (at-if1 .if1 .taken)
-    (at-part .part .ensures) (at-part2 .part2 .ensures) (at-part3 .part3 .ensures) (at-finish .finish .ensures)
+    assembled-ready _ _ _ _ (said-by _ _ (at-gather .gather .ensures)) (at-ready .ready .ensures) (at-part2 .before .before .before .before .if1 .taken)
+    (at-part2 .before .before .part .ensures) (at-part2 .part2 .ensures) (c .before .before .before .before .part3 .ensures) (c .before .before .finish .ensures)
 
 returns-2 : tie.Need-returns-2
 returns-2 c = assembled-not _ _ _ _ (said-by _ _ (c .before .before .before .before .before .before .gather .ensures)) (c .before .ready .ensures) (c .if1 .left)

@@ -29,15 +29,10 @@ same-length c = search needs
 
 returns : tie.Need-returns
 returns c =
-    let at-put3 = c .before .before in
-    let at-put2 = at-put3 .before .before .before .before in
-    let at-put = at-put2 .before .before .before .before in
-    let at-contents = at-put .before .before .before .before in
-    let at-size2 = at-contents .before .before in
-    let at-size = at-size2 .before in
-    let at-fill-size = at-size .before in
-    bound-by _ _ _ _ (at-fill-size .fill-size .ensures) (at-size .size .ensures) (at-size2 .size2 .ensures)
-    (at-contents .contents .ensures) (at-put .put .ensures) (at-put2 .put2 .ensures) (at-put3 .put3 .ensures)
+    let at-put2 = c .before .before .before .before .before .before in
+    let at-contents = at-put2 .before .before .before .before .before .before .before .before in
+    bound-by _ _ _ _ (at-contents .before .before .before .before .fill-size .ensures) (at-contents .before .before .before .size .ensures) (at-contents .before .before .size2 .ensures)
+    (at-contents .contents .ensures) (at-put2 .before .before .before .before .put .ensures) (at-put2 .put2 .ensures) (c .before .before .put3 .ensures)
 
 pub bind-spec : {M : Type 1} → statement M
 bind-spec =

@@ -25,8 +25,7 @@ returns : tie.Need-returns
 returns c =
     let at-step = c .before .before .before .before .before .before in
     let at-run = at-step .before .before .before .before .before .before .before .before .before .before in
-    let at-start = at-run .before .before .before .before in
-    gathered-by _ _ _ _ _ (at-start .start .ensures) (at-run .run .ensures) (at-step .step .ensures)
+    gathered-by _ _ _ _ _ (at-run .before .before .before .before .start .ensures) (at-run .run .ensures) (at-step .step .ensures)
 
 pub gather-spec : {M : Type 1} → statement M
 gather-spec =

@@ -35,8 +35,7 @@ unfolding runs
 loop-again c =
     let at-step = c .before .before .before .before .before .before in
     let at-loop-test = at-step .before .before .before .before .before in
-    let at-loop = at-loop-test .before in
-    ((at-step .step .kept .1 .0) ∙ (at-loop .loop .inv .0), (at-step .step .kept .1 .1 .0) ∙ (at-loop .loop .inv .1), (at-step .step .kept .1 .1 .1 .0) ∙ (at-loop .loop .inv .2), (at-loop .loop .inv .3) ∙ fold-next (stepped _) _ _ 0 (at-loop-test .loop-test .taken) (at-step .step .ensures))
+    ((at-step .step .kept .1 .0) ∙ (at-loop-test .before .loop .inv .0), (at-step .step .kept .1 .1 .0) ∙ (at-loop-test .before .loop .inv .1), (at-step .step .kept .1 .1 .1 .0) ∙ (at-loop-test .before .loop .inv .2), (at-loop-test .before .loop .inv .3) ∙ fold-next (stepped _) _ _ 0 (at-loop-test .loop-test .taken) (at-step .step .ensures))
 
 same-length : tie.Need-same-length Inv-loop μ-loop
 same-length c = (c .before .loop .inv .0)

@@ -54,16 +54,14 @@ put-requires-4 c κs = search needs
 
 same-length : tie.Need-same-length
 same-length c =
-    let at-put4 = c .before .before in
-    let at-signs = at-put4 .before .before .before .before .before in
-    let at-put3 = at-signs .before .before .before .before in
-    let at-hexes2 = at-put3 .before .before .before .before .before in
+    let at-signs = c .before .before .before .before .before .before .before in
+    let at-hexes2 = at-signs .before .before .before .before .before .before .before .before .before in
     let at-put2 = at-hexes2 .before .before .before .before .before .before in
     let at-hexes = at-put2 .before .before .before .before .before in
     let at-put = at-hexes .before .before .before .before .before .before in
-    (at-put4 .put4 .kept .0)
+    (c .before .before .put4 .kept .0)
     ∙ (at-signs .signs .kept .0)
-    ∙ (at-put3 .put3 .kept .0)
+    ∙ (at-signs .before .before .before .before .put3 .kept .0)
     ∙ (at-hexes2 .hexes2 .kept .0)
     ∙ (at-put2 .put2 .kept .0)
     ∙ (at-hexes .hexes .kept .0)
@@ -71,21 +69,16 @@ same-length c =
 
 returns : tie.Need-returns
 returns c =
-    let at-put4 = c .before .before in
-    let at-signs = at-put4 .before .before .before .before .before in
-    let at-put3 = at-signs .before .before .before .before in
-    let at-hexes2 = at-put3 .before .before .before .before .before in
-    let at-part2 = at-hexes2 .before in
-    let at-put2 = at-part2 .before .before .before .before .before in
+    let at-signs = c .before .before .before .before .before .before .before in
+    let at-hexes2 = at-signs .before .before .before .before .before .before .before .before .before in
+    let at-put2 = at-hexes2 .before .before .before .before .before .before in
     let at-hexes = at-put2 .before .before .before .before .before in
-    let at-part = at-hexes .before in
-    let at-put = at-part .before .before .before .before .before in
-    let at-head-text = at-put .before .before .before in
-    let at-start = at-head-text .before .before .before in
-    lined _ (at-start .args .page) (at-start .args .k) (at-start .args .s .now) (at-head-text .head-text .ensures)
-    (at-part .part .ensures) (at-part2 .part2 .ensures) (at-put .put .ensures) (at-hexes .hexes .ensures)
-    (at-put2 .put2 .ensures) (at-hexes2 .hexes2 .ensures) (at-put3 .put3 .ensures) (at-signs .signs .ensures)
-    (at-put4 .put4 .ensures)
+    let at-put = at-hexes .before .before .before .before .before .before in
+    let at-start = at-put .before .before .before .before .before .before in
+    lined _ (at-start .args .page) (at-start .args .k) (at-start .args .s .now) (at-put .before .before .before .head-text .ensures)
+    (at-hexes .before .part .ensures) (at-hexes2 .before .part2 .ensures) (at-put .put .ensures) (at-hexes .hexes .ensures)
+    (at-put2 .put2 .ensures) (at-hexes2 .hexes2 .ensures) (at-signs .before .before .before .before .put3 .ensures) (at-signs .signs .ensures)
+    (c .before .before .put4 .ensures)
 
 pub line-spec : {M : Type 1} → statement M
 line-spec =

@@ -35,11 +35,8 @@ loop-less c = omega arith
 
 loop-again : tie.Need-loop-again Inv-loop μ-loop
 loop-again c =
-    let at-push-byte = c .before .before in
-    let at-ascii = at-push-byte .before .before in
-    let at-loop-test = at-ascii .before .before in
-    let at-loop = at-loop-test .before in
-    ((at-push-byte .push-byte .kept .0) ∙ (at-loop .loop .inv .0), (at-loop .loop .inv .1) ∙ bytes-next _ _ _ _ (at-loop-test .loop-test .taken) (last _ _ ((at-push-byte .push-byte .ensures) ∙ ap (push _) (at-ascii .ascii .ensures))))
+    let at-loop-test = c .before .before .before .before .before .before in
+    ((c .before .before .push-byte .kept .0) ∙ (at-loop-test .before .loop .inv .0), (at-loop-test .before .loop .inv .1) ∙ bytes-next _ _ _ _ (at-loop-test .loop-test .taken) (last _ _ ((c .before .before .push-byte .ensures) ∙ ap (push _) (c .before .before .before .before .ascii .ensures))))
 
 same-length : tie.Need-same-length Inv-loop μ-loop
 same-length c = (c .before .loop .inv .0)

@@ -46,18 +46,10 @@ offset-requires c κs = search needs
 returns : tie.Need-returns
 unfolding sixOf
 returns c =
-    let at-pair3 = c .before in
-    let at-byte6 = at-pair3 .before in
-    let at-byte5 = at-byte6 .before in
-    let at-pair2 = at-byte5 .before in
-    let at-byte4 = at-pair2 .before in
-    let at-byte3 = at-byte4 .before in
-    let at-pair = at-byte3 .before in
-    let at-byte2 = at-pair .before in
-    let at-byte = at-byte2 .before in
+    let at-byte4 = c .before .before .before .before .before in
     (c .offset .ensures)
     ∙ simp
-    ((at-pair .pair .ensures), (at-pair2 .pair2 .ensures), (at-pair3 .pair3 .ensures), (at-byte .byte .ensures), (at-byte2 .byte2 .ensures), (at-byte3 .byte3 .ensures), (at-byte4 .byte4 .ensures), (at-byte5 .byte5 .ensures), (at-byte6 .byte6 .ensures))
+    ((at-byte4 .before .before .pair .ensures), (c .before .before .before .before .pair2 .ensures), (c .before .pair3 .ensures), (at-byte4 .before .before .before .before .byte .ensures), (at-byte4 .before .before .before .byte2 .ensures), (at-byte4 .before .byte3 .ensures), (at-byte4 .byte4 .ensures), (c .before .before .before .byte5 .ensures), (c .before .before .byte6 .ensures))
 
 pub six-spec : {M : Type 1} → statement M
 six-spec =

@@ -25,13 +25,11 @@ same-length c = search needs
 
 returns-2 : tie.Need-returns-2
 returns-2 c =
-    let at-push-byte = c .before .before in
-    let at-hexes = at-push-byte .before .before .before .before in
+    let at-hexes = c .before .before .before .before .before .before in
     let at-put = at-hexes .before .before .before .before .before in
-    let at-if1 = at-put .before .before in
-    let at-start = at-if1 .before .before .before .before in
-    rw (line-some (at-start .args .word .now) (at-start .args .s .now) (at-if1 .if1 .left))
-    (then _ _ _ (at-put .put .ensures) (then _ _ _ (at-hexes .hexes .ensures) (last _ _ (at-push-byte .push-byte .ensures))))
+    let at-start = at-put .before .before .before .before .before .before in
+    rw (line-some (at-start .args .word .now) (at-start .args .s .now) (at-put .before .before .if1 .left))
+    (then _ _ _ (at-put .put .ensures) (then _ _ _ (at-hexes .hexes .ensures) (last _ _ (c .before .before .push-byte .ensures))))
 
 pub line-spec : {M : Type 1} → statement M
 line-spec =

@@ -46,19 +46,14 @@ same-length c = search needs
 returns : tie.Need-returns
 unfolding settingsText
 returns c =
-    let at-rows = c .before .before in
-    let at-lines2 = at-rows .before .before .before .before in
+    let at-lines2 = c .before .before .before .before .before .before in
     let at-lines = at-lines2 .before .before .before .before .before in
     let at-number-line = at-lines .before .before .before .before .before in
-    let at-two = at-number-line .before .before .before in
-    let at-section-look4 = at-two .before in
-    let at-section-look3 = at-section-look4 .before in
-    let at-section-look2 = at-section-look3 .before in
-    let at-section-look = at-section-look2 .before in
-    let at-start = at-section-look .before .before .before in
-    listed _ (at-start .args .file .now) (at-section-look .section-look .ensures) (at-section-look2 .section-look2 .ensures)
-    (at-section-look3 .section-look3 .ensures) (at-section-look4 .section-look4 .ensures) (at-two .two .ensures)
-    (at-number-line .number-line .ensures) (at-lines .lines .ensures) (at-lines2 .lines2 .ensures) (at-rows .rows .ensures)
+    let at-section-look3 = at-number-line .before .before .before .before .before in
+    let at-start = at-section-look3 .before .before .before .before .before in
+    listed _ (at-start .args .file .now) (at-section-look3 .before .before .section-look .ensures) (at-section-look3 .before .section-look2 .ensures)
+    (at-section-look3 .section-look3 .ensures) (at-number-line .before .before .before .before .section-look4 .ensures) (at-number-line .before .before .before .two .ensures)
+    (at-number-line .number-line .ensures) (at-lines .lines .ensures) (at-lines2 .lines2 .ensures) (c .before .before .rows .ensures)
 
 pub list-file-spec : {M : Type 1} → statement M
 list-file-spec =

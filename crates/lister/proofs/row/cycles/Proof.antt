@@ -28,13 +28,10 @@ same-length c = search needs
 returns : tie.Need-returns
 unfolding cyclesText
 returns c =
-    let at-push-byte = c .before .before in
-    let at-flags = at-push-byte .before .before .before .before in
-    let at-event = at-flags .before .before .before .before in
-    let at-decimal = at-event .before .before .before .before in
-    let at-put = at-decimal .before .before .before .before in
-    then _ _ _ (at-put .put .ensures)
-    (then _ _ _ (at-decimal .decimal .ensures) (then _ _ _ (at-event .event .ensures) (then _ _ _ (at-flags .flags .ensures) (last _ _ (at-push-byte .push-byte .ensures)))))
+    let at-flags = c .before .before .before .before .before .before in
+    let at-decimal = at-flags .before .before .before .before .before .before .before .before in
+    then _ _ _ (at-decimal .before .before .before .before .put .ensures)
+    (then _ _ _ (at-decimal .decimal .ensures) (then _ _ _ (at-flags .before .before .before .before .event .ensures) (then _ _ _ (at-flags .flags .ensures) (last _ _ (c .before .before .push-byte .ensures)))))
 
 pub cycles-spec : {M : Type 1} → statement M
 cycles-spec =

@@ -33,14 +33,10 @@ same-length c = search needs
 returns : tie.Need-returns
 unfolding rowText
 returns c =
-    let at-cycles = c .before .before in
-    let at-if1 = at-cycles .before .before in
-    let at-two = at-if1 .before in
-    let at-byte5 = at-two .before in
-    let at-byte4 = at-byte5 .before in
-    let at-byte = at-byte4 .before .before .before in
-    (at-cycles .cycles .ensures)
-    ∙ simp (sym (at-byte .byte .ensures) ∙ (at-if1 .if1 .taken), (at-two .two .ensures), (at-byte4 .byte4 .ensures), (at-byte5 .byte5 .ensures))
+    let at-two = c .before .before .before .before .before in
+    let at-byte = at-two .before .before .before .before .before in
+    (c .before .before .cycles .ensures)
+    ∙ simp (sym (at-byte .byte .ensures) ∙ (c .before .before .before .before .if1 .taken), (at-two .two .ensures), (at-two .before .before .byte4 .ensures), (at-two .before .byte5 .ensures))
 
 read-text-requires : tie.Need-read-text-requires
 read-text-requires c κs = search needs
@@ -57,16 +53,11 @@ same-length-2 c = search needs
 returns-2 : tie.Need-returns-2
 unfolding rowText
 returns-2 c =
-    let at-put = c .before .before in
-    let at-read-text = at-put .before .before .before in
-    let at-if2 = at-read-text .before in
-    let at-byte4 = at-if2 .before .before .before .before in
-    let at-byte3 = at-byte4 .before in
-    let at-byte2 = at-byte3 .before in
-    let at-byte = at-byte2 .before in
-    (at-put .put .ensures)
+    let at-read-text = c .before .before .before .before .before in
+    let at-byte4 = at-read-text .before .before .before .before .before in
+    (c .before .before .put .ensures)
     ∙ simp
-    (sym (at-byte .byte .ensures) ∙ (at-if2 .if2 .taken), (at-read-text .read-text .ensures), (at-byte2 .byte2 .ensures), (at-byte3 .byte3 .ensures), (at-byte4 .byte4 .ensures))
+    (sym (at-byte4 .before .before .before .byte .ensures) ∙ (at-read-text .before .if2 .taken), (at-read-text .read-text .ensures), (at-byte4 .before .before .byte2 .ensures), (at-byte4 .before .byte3 .ensures), (at-byte4 .byte4 .ensures))
 
 write-text-requires : tie.Need-write-text-requires
 write-text-requires c κs = search needs
@@ -83,17 +74,11 @@ same-length-3 c = search needs
 returns-3 : tie.Need-returns-3
 unfolding rowText
 returns-3 c =
-    let at-put2 = c .before .before in
-    let at-write-text = at-put2 .before .before .before in
-    let at-if3 = at-write-text .before in
-    let at-byte5 = at-if3 .before .before .before .before in
-    let at-byte4 = at-byte5 .before in
-    let at-byte3 = at-byte4 .before in
-    let at-byte2 = at-byte3 .before in
-    let at-byte = at-byte2 .before in
-    (at-put2 .put2 .ensures)
+    let at-write-text = c .before .before .before .before .before in
+    let at-byte5 = at-write-text .before .before .before .before .before in
+    (c .before .before .put2 .ensures)
     ∙ simp
-    (sym (at-byte .byte .ensures) ∙ (at-if3 .if3 .taken), (at-write-text .write-text .ensures), (at-byte2 .byte2 .ensures), (at-byte3 .byte3 .ensures), (at-byte4 .byte4 .ensures), (at-byte5 .byte5 .ensures))
+    (sym (at-byte5 .before .before .before .before .byte .ensures) ∙ (at-write-text .before .if3 .taken), (at-write-text .write-text .ensures), (at-byte5 .before .before .before .byte2 .ensures), (at-byte5 .before .before .byte3 .ensures), (at-byte5 .before .byte4 .ensures), (at-byte5 .byte5 .ensures))
 
 pad-requires : tie.Need-pad-requires
 pad-requires c κs = search needs
@@ -104,15 +89,10 @@ same-length-4 c = search needs
 returns-4 : tie.Need-returns-4
 unfolding rowText
 returns-4 c =
-    let at-pad = c .before .before in
-    let at-if4 = at-pad .before .before in
-    let at-byte4 = at-if4 .before .before .before .before .before .before in
-    let at-byte3 = at-byte4 .before in
-    let at-byte2 = at-byte3 .before in
-    let at-byte = at-byte2 .before in
-    (at-pad .pad .ensures)
+    let at-byte4 = c .before .before .before .before .before .before .before .before .before .before in
+    (c .before .before .pad .ensures)
     ∙ simp
-    (sym (at-byte .byte .ensures) ∙ (at-if4 .if4 .taken), (at-byte2 .byte2 .ensures), (at-byte3 .byte3 .ensures), (at-byte4 .byte4 .ensures))
+    (sym (at-byte4 .before .before .before .byte .ensures) ∙ (c .before .before .before .before .if4 .taken), (at-byte4 .before .before .byte2 .ensures), (at-byte4 .before .byte3 .ensures), (at-byte4 .byte4 .ensures))
 
 plug-requires : tie.Need-plug-requires
 plug-requires c κs = search needs
@@ -123,13 +103,9 @@ same-length-5 c = search needs
 returns-5 : tie.Need-returns-5
 unfolding rowText
 returns-5 c =
-    let at-plug = c .before .before in
-    let at-if5 = at-plug .before .before in
-    let at-byte3 = at-if5 .before .before .before .before .before .before .before .before in
-    let at-byte2 = at-byte3 .before in
-    let at-byte = at-byte2 .before in
-    (at-plug .plug .ensures)
-    ∙ simp (sym (at-byte .byte .ensures) ∙ (at-if5 .if5 .taken), (at-byte2 .byte2 .ensures), (at-byte3 .byte3 .ensures))
+    let at-byte3 = c .before .before .before .before .before .before .before .before .before .before .before .before in
+    (c .before .before .plug .ensures)
+    ∙ simp (sym (at-byte3 .before .before .byte .ensures) ∙ (c .before .before .before .before .if5 .taken), (at-byte3 .before .byte2 .ensures), (at-byte3 .byte3 .ensures))
 
 answer-text-requires : tie.Need-answer-text-requires
 answer-text-requires c κs = search needs
@@ -146,16 +122,11 @@ same-length-6 c = search needs
 returns-6 : tie.Need-returns-6
 unfolding rowText
 returns-6 c =
-    let at-put3 = c .before .before in
-    let at-answer-text = at-put3 .before .before .before in
-    let at-if6 = at-answer-text .before in
-    let at-byte5 = at-if6 .before .before .before .before .before .before .before in
-    let at-byte4 = at-byte5 .before in
-    let at-byte3 = at-byte4 .before in
-    let at-byte = at-byte3 .before .before in
-    (at-put3 .put3 .ensures)
+    let at-answer-text = c .before .before .before .before .before in
+    let at-byte5 = at-answer-text .before .before .before .before .before .before .before .before in
+    (c .before .before .put3 .ensures)
     ∙ simp
-    (sym (at-byte .byte .ensures) ∙ (at-if6 .if6 .taken), (at-answer-text .answer-text .ensures), (at-byte3 .byte3 .ensures), (at-byte4 .byte4 .ensures), (at-byte5 .byte5 .ensures))
+    (sym (at-byte5 .before .before .before .before .byte .ensures) ∙ (at-answer-text .before .if6 .taken), (at-answer-text .answer-text .ensures), (at-byte5 .before .before .byte3 .ensures), (at-byte5 .before .byte4 .ensures), (at-byte5 .byte5 .ensures))
 
 slice-aggregate-number-line : tie.Need-slice-aggregate-number-line
 slice-aggregate-number-line c = search needs
@@ -169,31 +140,25 @@ same-length-7 c = search needs
 returns-7 : tie.Need-returns-7
 unfolding rowText backText
 returns-7 c =
-    let at-number-line = c .before .before in
-    let at-if7 = at-number-line .before .before .before in
+    let at-if7 = c .before .before .before .before .before in
     let at-two = at-if7 .before .before .before .before .before .before .before in
     let at-byte = at-two .before .before .before .before .before in
-    (at-number-line .number-line .ensures)
+    (c .before .before .number-line .ensures)
     ∙ simp (sym (at-byte .byte .ensures) ∙ (at-if7 .if7 .taken), (at-two .two .ensures))
 
 returns-8 : tie.Need-returns-8
 unfolding rowText
 returns-8 c =
-    let at-if6 = c .before in
-    let at-if5 = at-if6 .before in
-    let at-if4 = at-if5 .before in
-    let at-if3 = at-if4 .before in
-    let at-if2 = at-if3 .before in
-    let at-if1 = at-if2 .before in
-    let at-byte = at-if1 .before .before .before .before .before .before in
+    let at-if2 = c .before .before .before .before .before in
+    let at-byte = at-if2 .before .before .before .before .before .before .before in
     let is = at-byte .byte .ensures in
     simp (
-      ne-eqb _ _ (λ e. at-if1 .if1 .left (is ∙ e)),
+      ne-eqb _ _ (λ e. at-if2 .before .if1 .left (is ∙ e)),
       ne-eqb _ _ (λ e. at-if2 .if2 .left (is ∙ e)),
-      ne-eqb _ _ (λ e. at-if3 .if3 .left (is ∙ e)),
-      ne-eqb _ _ (λ e. at-if4 .if4 .left (is ∙ e)),
-      ne-eqb _ _ (λ e. at-if5 .if5 .left (is ∙ e)),
-      ne-eqb _ _ (λ e. at-if6 .if6 .left (is ∙ e)),
+      ne-eqb _ _ (λ e. c .before .before .before .before .if3 .left (is ∙ e)),
+      ne-eqb _ _ (λ e. c .before .before .before .if4 .left (is ∙ e)),
+      ne-eqb _ _ (λ e. c .before .before .if5 .left (is ∙ e)),
+      ne-eqb _ _ (λ e. c .before .if6 .left (is ∙ e)),
       ne-eqb _ _ (λ e. c .if7 .left (is ∙ e)),
     )
     (sym (puts-none _))

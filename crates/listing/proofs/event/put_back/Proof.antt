@@ -48,18 +48,13 @@ same-length c = search needs
 
 returns-2 : tie.Need-returns-2
 returns-2 c =
-    let at-put4 = c .before .before in
-    let at-put-origin = at-put4 .before .before .before .before .before in
-    let at-put3 = at-put-origin .before .before .before .before in
-    let at-decimal2 = at-put3 .before .before .before .before .before in
-    let at-put2 = at-decimal2 .before .before .before .before in
-    let at-decimal = at-put2 .before .before .before .before .before in
-    let at-put = at-decimal .before .before .before .before in
-    let at-head = at-put .before .before .before .before .before in
-    let at-if1 = at-head .before .before in
-    back-joined _ _ _ _ _ _ (ne-eqb _ _ (at-if1 .if1 .left)) (at-head .head .ensures) (at-put .put .ensures)
-    (at-decimal .decimal .ensures) (at-put2 .put2 .ensures) (at-decimal2 .decimal2 .ensures) (at-put3 .put3 .ensures)
-    (at-put-origin .put-origin .ensures) (at-put4 .put4 .ensures)
+    let at-put-origin = c .before .before .before .before .before .before .before in
+    let at-decimal2 = at-put-origin .before .before .before .before .before .before .before .before .before in
+    let at-decimal = at-decimal2 .before .before .before .before .before .before .before .before .before in
+    let at-head = at-decimal .before .before .before .before .before .before .before .before .before in
+    back-joined _ _ _ _ _ _ (ne-eqb _ _ (at-head .before .before .if1 .left)) (at-head .head .ensures) (at-decimal .before .before .before .before .put .ensures)
+    (at-decimal .decimal .ensures) (at-decimal2 .before .before .before .before .put2 .ensures) (at-decimal2 .decimal2 .ensures) (at-put-origin .before .before .before .before .put3 .ensures)
+    (at-put-origin .put-origin .ensures) (c .before .before .put4 .ensures)
 
 pub put-back-spec : {M : Type 1} → statement M
 put-back-spec =

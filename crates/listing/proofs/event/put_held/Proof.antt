@@ -39,15 +39,11 @@ same-length c = search needs
 
 returns-2 : tie.Need-returns-2
 returns-2 c =
-    let at-put3 = c .before .before in
-    let at-decimal2 = at-put3 .before .before .before .before .before in
-    let at-put2 = at-decimal2 .before .before .before .before in
-    let at-decimal = at-put2 .before .before .before .before .before in
-    let at-put = at-decimal .before .before .before .before in
-    let at-head = at-put .before .before .before .before .before in
-    let at-if1 = at-head .before .before in
-    held-joined _ _ _ _ _ _ (eq-eqb _ _ (at-if1 .if1 .left)) (at-head .head .ensures) (at-put .put .ensures)
-    (at-decimal .decimal .ensures) (at-put2 .put2 .ensures) (at-decimal2 .decimal2 .ensures) (at-put3 .put3 .ensures)
+    let at-decimal2 = c .before .before .before .before .before .before .before in
+    let at-decimal = at-decimal2 .before .before .before .before .before .before .before .before .before in
+    let at-head = at-decimal .before .before .before .before .before .before .before .before .before in
+    held-joined _ _ _ _ _ _ (eq-eqb _ _ (at-head .before .before .if1 .left)) (at-head .head .ensures) (at-decimal .before .before .before .before .put .ensures)
+    (at-decimal .decimal .ensures) (at-decimal2 .before .before .before .before .put2 .ensures) (at-decimal2 .decimal2 .ensures) (c .before .before .put3 .ensures)
 
 pub put-held-spec : {M : Type 1} → statement M
 put-held-spec =

@@ -39,15 +39,11 @@ same-length c = search needs
 
 returns-2 : tie.Need-returns-2
 returns-2 c =
-    let at-put3 = c .before .before in
-    let at-words = at-put3 .before .before .before .before .before in
-    let at-put2 = at-words .before .before .before .before in
-    let at-decimal = at-put2 .before .before .before .before .before in
-    let at-put = at-decimal .before .before .before .before in
-    let at-head = at-put .before .before .before .before .before in
-    let at-if1 = at-head .before .before in
-    refused-joined _ _ _ _ (ne-eqb _ _ (at-if1 .if1 .left)) (at-head .head .ensures) (at-put .put .ensures)
-    (at-decimal .decimal .ensures) (at-put2 .put2 .ensures) (at-words .words .ensures) (at-put3 .put3 .ensures)
+    let at-words = c .before .before .before .before .before .before .before in
+    let at-decimal = at-words .before .before .before .before .before .before .before .before .before in
+    let at-head = at-decimal .before .before .before .before .before .before .before .before .before in
+    refused-joined _ _ _ _ (ne-eqb _ _ (at-head .before .before .if1 .left)) (at-head .head .ensures) (at-decimal .before .before .before .before .put .ensures)
+    (at-decimal .decimal .ensures) (at-words .before .before .before .before .put2 .ensures) (at-words .words .ensures) (c .before .before .put3 .ensures)
 
 pub put-refused-spec : {M : Type 1} → statement M
 put-refused-spec =

@@ -34,15 +34,9 @@ glyph-requires-8 c κs = search needs
 
 returns : tie.Need-returns
 returns c =
-    let at-glyph7 = c .before in
-    let at-glyph6 = at-glyph7 .before .before in
-    let at-glyph5 = at-glyph6 .before in
-    let at-glyph4 = at-glyph5 .before in
-    let at-glyph3 = at-glyph4 .before in
-    let at-glyph2 = at-glyph3 .before in
-    let at-glyph = at-glyph2 .before in
+    let at-glyph4 = c .before .before .before .before .before in
     simp
-    (c .glyph8 .ensures, at-glyph7 .glyph7 .ensures, at-glyph6 .glyph6 .ensures, at-glyph5 .glyph5 .ensures, at-glyph4 .glyph4 .ensures, at-glyph3 .glyph3 .ensures, at-glyph2 .glyph2 .ensures, at-glyph .glyph .ensures)
+    (c .glyph8 .ensures, c .before .glyph7 .ensures, c .before .before .before .glyph6 .ensures, c .before .before .before .before .glyph5 .ensures, at-glyph4 .glyph4 .ensures, at-glyph4 .before .glyph3 .ensures, at-glyph4 .before .before .glyph2 .ensures, at-glyph4 .before .before .before .glyph .ensures)
 
 pub address-text-spec : {M : Type 1} → statement M
 address-text-spec =

@@ -57,22 +57,16 @@ same-length c = search needs
 
 returns-2 : tie.Need-returns-2
 returns-2 c =
-    let at-put4 = c .before .before in
-    let at-put-zero = at-put4 .before .before .before .before .before in
-    let at-put-own = at-put-zero .before .before .before .before in
-    let at-put-spot = at-put-own .before .before .before .before in
-    let at-put3 = at-put-spot .before .before .before .before in
-    let at-put2 = at-put3 .before .before .before .before .before in
+    let at-put-zero = c .before .before .before .before .before .before .before in
+    let at-put-spot = at-put-zero .before .before .before .before .before .before .before .before in
+    let at-put2 = at-put-spot .before .before .before .before .before .before .before .before .before in
     let at-put = at-put2 .before .before .before .before .before in
     let at-head = at-put .before .before .before .before .before in
-    let at-address-text = at-head .before .before in
-    let at-verb-text = at-address-text .before in
-    let at-who-text = at-verb-text .before in
-    let at-if1 = at-who-text .before in
-    access-joined _ _ _ _ _ (not-false _ (at-if1 .if1 .left)) (at-who-text .who-text .ensures)
-    (at-verb-text .verb-text .ensures) (at-address-text .address-text .ensures) (at-head .head .ensures)
-    (at-put .put .ensures) (at-put2 .put2 .ensures) (at-put3 .put3 .ensures) (at-put-spot .put-spot .ensures)
-    (at-put-own .put-own .ensures) (at-put-zero .put-zero .ensures) (at-put4 .put4 .ensures)
+    let at-if1 = at-head .before .before .before .before .before in
+    access-joined _ _ _ _ _ (not-false _ (at-if1 .if1 .left)) (at-head .before .before .before .before .who-text .ensures)
+    (at-head .before .before .before .verb-text .ensures) (at-head .before .before .address-text .ensures) (at-head .head .ensures)
+    (at-put .put .ensures) (at-put2 .put2 .ensures) (at-put-spot .before .before .before .before .put3 .ensures) (at-put-spot .put-spot .ensures)
+    (at-put-zero .before .before .before .before .put-own .ensures) (at-put-zero .put-zero .ensures) (c .before .before .put4 .ensures)
 
 pub put-access-spec : {M : Type 1} → statement M
 put-access-spec =

@@ -9,7 +9,7 @@ abbrev pub codes : String → List ℕ
 codes []ˢ = []
 codes (c ∷ˢ s) = code c ∷ codes s
 
--- n of them, from number k on
+-- n texts one after the other, by their numbers from k on
 unfoldable pub each : (ℕ → List ℕ) → ℕ → ℕ → List ℕ
 each f zero k = []
 each f (suc n) k = f k ++ each f n (k + 1)

@@ -7,7 +7,7 @@ use native.Mathlib.Numerals.{unary-clauses}
 use native.Mathlib.Omega.{arith}
 use native.Mathlib.Nat.{pow-succ', one-le-pow, mod-eq-of-lt, pow-le-pow-right}
 use lib.Dec.{leb, ltb}
-use lib.ListN.{length, take, replicate, length-append}
+use lib.ListN.{length, take, replicate, length-append, length-replicate}
 use lib.Seq.{length-take-le}
 use borrow.Author.Tests.{lt-ltb, le-ltb, leb-true, leb-false}
 use Rattle.common.proofs.TableLaws.{pick-elim}
@@ -27,6 +27,11 @@ most-in (suc k) n =
 pub most : (n : ℕ) → length (decimal n) ≤ 20
 unfolding decimal
 most n = most-in 20 n
+
+-- in a column of at most 20 too
+pub most-padded : (w n : ℕ) → w ≤ 20 → length (padded w n) ≤ 20
+unfolding padded
+most-padded w n h = simp (length-append, length-replicate) (omega (arith, most n))
 
 -- a number under 10^k has at most k digits, whatever room there is for more
 short-in : (f k n : ℕ) → n < 10 ^ suc k → length (decimalIn f n) ≤ suc k

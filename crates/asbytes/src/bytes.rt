@@ -11,7 +11,7 @@ use crate::KEPT;
 use crate::LENGTH;
 use crate::SLOT;
 use bench::Bench;
-use benchfile::word::four;
+use fields::word::four;
 use decode::machine_at;
 use fields::eight_bytes;
 use fields::put;

@@ -6,7 +6,7 @@ ghost use Rattle.assembler.specs.Assemble.{readyOf, checked, finished, a
 use crate::bind::bind;
 use crate::desk::gather;
 use benchfile::check::file_check;
-use benchfile::part::part;
+use fields::part::part;
 use reader::draft::Draft;
 
 // A text that did not fail and has settings and a fill.

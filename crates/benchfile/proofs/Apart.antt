@@ -12,7 +12,7 @@ use Rattle.fields.specs.Bytes.{partOf}
 use Rattle.common.specs.Width.{Bytes}
 use Rattle.benchfile.specs.File.{startOf, sizeOf, endOf, bodyOf}
 use Rattle.benchfile.specs.Build.{contentsOf, build}
-use Rattle.benchfile.proofs.Parts.{listed}
+use Rattle.fields.proofs.Parts.{listed}
 use Rattle.benchfile.proofs.Facts.{Facts}
 
 -- n numbers of four bytes, from place k on

@@ -10,7 +10,7 @@ use Rattle.fields.proofs.Number.{number}
 use Rattle.fields.specs.Bytes.{partOf}
 use Rattle.benchfile.specs.File.{startOf, sizeOf, bodyOf, scriptFormed, sound}
 use Rattle.benchfile.specs.Build.{contentsOf, build}
-use Rattle.benchfile.proofs.Parts.{part-at}
+use Rattle.fields.proofs.Parts.{part-at}
 use Rattle.benchfile.proofs.Facts.{sound-by}
 
 module _ (s f r c : List ℕ) where

@@ -13,7 +13,7 @@ use Rattle.benchfile.specs.Row.{rowAt}
 use Rattle.benchfile.specs.File.{startOf, sizeOf, bodyOf, sound, fileCheck, sectionNumber, sectionOf}
 use Rattle.benchfile.specs.Build.{scriptOf, build, Bench}
 use Rattle.benchfile.proofs.Scripts.{rowsOf, script-row, script-formed, script-back, rows-lawful}
-use Rattle.benchfile.proofs.Parts.{part-bytes}
+use Rattle.fields.proofs.Parts.{part-bytes}
 use Rattle.benchfile.proofs.Facts.{facts}
 use Rattle.benchfile.proofs.Apart.{body-length, apart}
 use Rattle.benchfile.proofs.Built.{body-0, body-1, body-2, body-3, sound-build}

@@ -1,4 +1,3 @@
-pub mod Parts
 pub mod Zeros
 pub mod Rows
 pub mod Numbers

@@ -22,7 +22,7 @@ use Rattle.fields.specs.Bytes.{byteAt}
 use Rattle.common.specs.Width.{Bytes}
 use Rattle.benchfile.specs.Row.{zeros, formTable, formedRow, fieldTable, fieldsOf, rowOf, bytesOf, FitRow, lawful}
 use Rattle.benchfile.proofs.Numbers.{lo-back, hi-back, flags-small, due-back, timer-back, flags-back}
-use Rattle.benchfile.proofs.Parts.{listed}
+use Rattle.fields.proofs.Parts.{listed}
 use Rattle.benchfile.proofs.Zeros.{are}
 use Rattle.benchfile.proofs.Found.{Holds, found}
 

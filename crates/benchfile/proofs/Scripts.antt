@@ -12,7 +12,7 @@ use Rattle.common.specs.Width.{Bytes}
 use Rattle.benchfile.specs.Row.{formedRow, rowBytes, rowAt, bytesOf, FitRow, lawful}
 use Rattle.benchfile.specs.File.{scriptFormed}
 use Rattle.benchfile.specs.Build.{Lawful, scriptOf}
-use Rattle.benchfile.proofs.Parts.{part-bytes}
+use Rattle.fields.proofs.Parts.{part-bytes}
 use Rattle.benchfile.proofs.Rows.{all, past, whole, script}
 use Rattle.benchfile.proofs.RowBytes.{eight, formed-bytes, row-bytes, row-fits, bytes-row}
 

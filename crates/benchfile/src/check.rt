@@ -6,8 +6,8 @@ use crate::contents::body;
 use crate::contents::end;
 use crate::contents::size;
 use crate::contents::start;
-use crate::part::part;
 use crate::row::formed;
+use fields::part::part;
 
 // One section starts where another ends.
 fn adjoins(file: &[u8], section: u8, next: u8) -> bool

@@ -2,8 +2,8 @@
 ghost use mathlib.Core.Path.{_≡_};
 ghost use denote.Ref.{now};
 ghost use Rattle.benchfile.specs.File.{startOf, sizeOf, endOf, bodyOf};
-use crate::part::part;
-use crate::word::four;
+use fields::part::part;
+use fields::word::four;
 
 pub fn start(file: &[u8], section: u8) -> u32
     ensures { λ r. ⌜ r ≡ startOf (now (file .entry)) section ⌝ }

@@ -1,7 +1,5 @@
 // A bench file: settings, RAM fill, ROM and script in one lent slice (document 01, "Bench file").
 pub mod check;
 pub mod contents;
-pub mod part;
 pub mod row;
 pub mod section;
-pub mod word;

@@ -2,9 +2,9 @@
 ghost use mathlib.Core.Path.{_≡_};
 ghost use denote.Ref.{now};
 ghost use Rattle.benchfile.specs.Row.{zeros, formedRow, fieldsOf, rowOf, rowAt};
-use crate::part::part;
-use crate::word::byte;
-use crate::word::two;
+use fields::part::part;
+use fields::word::byte;
+use fields::word::two;
 
 pub enum Row {
     // `count` cycles; event and flags hold for the first.

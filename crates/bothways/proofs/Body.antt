@@ -14,10 +14,11 @@ use Rattle.reader.specs.Draft.{draft}
 use Rattle.reader.specs.Line.{numberOf, takenOf, closingOf, lineOf}
 use Rattle.reader.specs.Reader.{reader, shutOf, spacedOf, plainOf, stepOf, readOf}
 use Rattle.append.specs.Number.{glyphOf}
-use Rattle.lister.specs.Body.{bytesText, fillWord, romWord}
+use Rattle.append.specs.Texts.{codes}
+use Rattle.lister.specs.Body.{bytesText}
 use Rattle.assembler.specs.Desk.{State, frontOf, romOf, scriptOf, stepped, runs, made, added}
 use Rattle.bothways.proofs.Quietly.{quietly, quietly-runs, one}
-use Rattle.bothways.proofs.Digits.{byte-2}
+use Rattle.bothways.proofs.Digits.{plain, byte-first}
 use Rattle.bothways.proofs.Rows.{before}
 
 pub data Section : Type 0 where
@@ -26,8 +27,8 @@ pub data Section : Type 0 where
 
 -- its word, and the phase before it
 abbrev pub wordOf : Section → List ℕ
-wordOf fill = fillWord
-wordOf rom = romWord
+wordOf fill = codes "fill"
+wordOf rom = codes "rom"
 
 abbrev pub early : Section → ℕ
 early fill = 1
@@ -55,9 +56,9 @@ emitOf fill = 1
 emitOf rom = 5
 
 -- first or later
-abbrev placeOf : Section → Bool → ℕ
-placeOf b true = firstOf b
-placeOf b false = moreOf b
+abbrev wantedOf : Section → Bool → ℕ
+wantedOf b true = firstOf b
+wantedOf b false = moreOf b
 
 -- which buffer gets the bytes
 abbrev pub toFront : Section → List ℕ → List ℕ
@@ -73,7 +74,7 @@ gained b r f o s l = made r (puts f (toFront b l)) (puts o (toRom b l)) s
 
 -- a byte x is read, y was before it
 abbrev pub byteRead : Section → Bool → ℕ → ℕ → Reader
-byteRead b i x y = reader (word 3 x 0) (draft (late b) (placeOf b i) (kindOf b) y 0 0 0 0)
+byteRead b i x y = reader (word 3 x 0) (draft (late b) (wantedOf b i) (kindOf b) y 0 0 0 0)
 
 abbrev pub spacedRead : Section → ℕ → Reader
 spacedRead b x = reader (blankWord 0) (draft (late b) (moreOf b) (kindOf b) x 0 0 0 (emitOf b))
@@ -139,7 +140,7 @@ gain-gain rom r f o s x l = refl
 -- the two digits behind `$`
 pub digits : (b : Section) (x z : ℕ) → z < 256 → quietly (dollarRead b x) (glyphOf (z / 16) ∷ glyphOf z ∷ []) ≡ byteRead b false z x
 unfolding quietly
-digits b x z h = byte-2 (late b) (moreOf b) (kindOf b) x 0 0 0 [] 0 z h
+digits b x z h = byte-first (late b) (moreOf b) (kindOf b) x 0 0 0 plain [] 0 z h
 
 -- one byte more
 module _ (file : List ℕ) (b : Section) (i : Bool) (f o s : Sheet) (x y z : ℕ) (lx : x < 256) (lz : z < 256) (t : List ℕ) where
@@ -155,7 +156,7 @@ module _ (file : List ℕ) (b : Section) (i : Bool) (f o s : Sheet) (x y z : ℕ
   at-dollar : stepped file (made (spacedRead b x) front image s) 36 ≡ added file front image s (dollarRead b x)
   at-dollar = one file front image s (spacedRead b x) 36 ∙ ap (added file front image s) (dollar b x)
 
-  next-byte : runs file (made (byteRead b i x y) f o s) (32 ∷ 36 ∷ glyphOf (z / 16) ∷ glyphOf z ∷ t)
+  next-byte : runs file (made (byteRead b i x y) f o s) (codes " $" ++ glyphOf (z / 16) ∷ glyphOf z ∷ t)
       ≡ runs file (made (byteRead b false z x) front image s) t
   unfolding runs
   next-byte =
@@ -173,11 +174,11 @@ lastOf x (z ∷ l) = lastOf z l
 
 -- the bytes behind x, and the line's end
 pub bytes-run : (file : List ℕ) (b : Section) (i : Bool) (f o s : Sheet) (x y : ℕ) (l : List ℕ) → Bytes (x ∷ l)
-    → runs file (made (byteRead b i x y) f o s) (bytesText l ++ (10 ∷ [])) ≡ gained b (lineRead b (lastOf x l)) f o s (x ∷ l)
+    → runs file (made (byteRead b i x y) f o s) (bytesText l ++ codes "\n") ≡ gained b (lineRead b (lastOf x l)) f o s (x ∷ l)
 unfolding flatMap runs
 bytes-run file b i f o s x y [] h =
     one file f o s (byteRead b i x y) 10 ∙ ap (added file f o s) (end x y (h .0) b i) ∙ gain-line file b f o s x
 bytes-run file b i f o s x y (z ∷ l) h =
-    next-byte file b i f o s x y z (h .0) (h .1 .0) (bytesText l ++ (10 ∷ []))
+    next-byte file b i f o s x y z (h .0) (h .1 .0) (bytesText l ++ codes "\n")
     ∙ bytes-run file b false (puts f (toFront b (x ∷ []))) (puts o (toRom b (x ∷ []))) s z x l (h .1)
     ∙ gain-gain b (lineRead b (lastOf z l)) f o s x (z ∷ l)

@@ -13,48 +13,26 @@ use Rattle.reader.specs.Line.{numberOf, namedOf, takenOf, closingOf, lineOf}
 use Rattle.reader.specs.Reader.{reader, shutOf, spacedOf, plainOf, stepOf, readOf}
 use Rattle.bothways.proofs.Quietly.{quietly}
 use Rattle.append.specs.Number.{glyphOf, decimal}
-use Rattle.lister.specs.Row.{wordText, onWord, offWord, padText, plugText, backText}
-use Rattle.bothways.proofs.Digits.{byte-2, byte-3}
+use Rattle.append.specs.Texts.{codes}
+use Rattle.lister.specs.Row.{wordText, padText, plugText, backText}
+use Rattle.bothways.proofs.Digits.{plain, byte-first, byte-more}
 use Rattle.bothways.proofs.Decimal.{decimal-back}
-use Rattle.bothways.proofs.Rows.{Open, fill, rom, rows, before, at}
-
-module _ (k x₁ x₂ x₃ x₄ : ℕ) (t : List ℕ) where
-  -- `back `
-  back-word : (p : ℕ) → Open p → quietly (before p k x₁ x₂ x₃ x₄ 0) (98 ∷ 97 ∷ 99 ∷ 107 ∷ 32 ∷ t) ≡ quietly (at 15 7 0 0 0 0) t
-  unfolding quietly readOf stepOf plainOf letterOf signOf digitOf spacedOf shutOf takenOf namedOf keywordOf worthOf
-  back-word p fill = refl
-  back-word p rom = refl
-  back-word p rows = refl
-
-  -- `pad `
-  pad-word : (p : ℕ) → Open p → quietly (before p k x₁ x₂ x₃ x₄ 0) (112 ∷ 97 ∷ 100 ∷ 32 ∷ t) ≡ quietly (at 6 4 0 0 0 0) t
-  unfolding quietly readOf stepOf plainOf letterOf signOf digitOf spacedOf shutOf takenOf namedOf keywordOf worthOf
-  pad-word p fill = refl
-  pad-word p rom = refl
-  pad-word p rows = refl
-
-  -- `plug `
-  plug-word : (p : ℕ) → Open p → quietly (before p k x₁ x₂ x₃ x₄ 0) (112 ∷ 108 ∷ 117 ∷ 103 ∷ 32 ∷ t) ≡ quietly (at 17 5 0 0 0 0) t
-  unfolding quietly readOf stepOf plainOf letterOf signOf digitOf spacedOf shutOf takenOf namedOf keywordOf worthOf
-  plug-word p fill = refl
-  plug-word p rom = refl
-  plug-word p rows = refl
+use Rattle.bothways.proofs.Rows.{Open, before, at, pad-row, plug-row, back-row, row-word}
 
 -- the end of a back row
-back-end : (n : ℕ) → 1 ≤ n → n < 65536 → quietly (reader (word 6 n 0) (draft 4 15 7 0 0 0 0 0)) (10 ∷ []) ≡ before 4 7 (n % 256) (n / 256) 0 0 3
+back-end : (n : ℕ) → 1 ≤ n → n < 65536 → quietly (reader (word 6 n 0) (draft 4 15 7 0 0 0 0 0)) (codes "\n") ≡ before 4 7 (n % 256) (n / 256) 0 0 3
 unfolding quietly readOf stepOf signOf shutOf takenOf numberOf worthOf lineOf closingOf
 back-end n f l =
-    let m : n ≤ 65535 = omega arith in
     let q : n / 256 % 256 ≡ n / 256 = omega arith in
-    rw (le-leb 1 n f, le-leb n 65535 m, q)
+    rw (le-leb 1 n f, le-leb n 65535 (omega arith), q)
 
 -- a back row comes back
 pub back-back : (n : ℕ) → 1 ≤ n → n < 65536 → (k x₁ x₂ x₃ x₄ : ℕ) → (p : ℕ) → Open p
     → quietly (before p k x₁ x₂ x₃ x₄ 0) (backText n) ≡ before 4 7 (n % 256) (n / 256) 0 0 3
 unfolding backText
 back-back n f l k x₁ x₂ x₃ x₄ p o =
-    back-word k x₁ x₂ x₃ x₄ (decimal n ++ (10 ∷ [])) p o
-    ∙ decimal-back 4 15 7 0 0 0 0 n (10 ∷ []) l
+    row-word k x₁ x₂ x₃ x₄ (decimal n ++ codes "\n") p o back-row
+    ∙ decimal-back 4 15 7 0 0 0 0 n (codes "\n") l
     ∙ back-end n f l
 
 -- 1 on, 0 off
@@ -63,58 +41,52 @@ bit true = 1
 bit false = 0
 
 abbrev onOff : Bool → List ℕ
-onOff true = 111 ∷ 110 ∷ 10 ∷ []
-onOff false = 111 ∷ 102 ∷ 102 ∷ 10 ∷ []
+onOff true = codes "on\n"
+onOff false = codes "off\n"
 
 module _ (n : ℕ) (l : n < 256) where
   -- the port of a pad row
   pad-space : readOf (reader (word 6 n 0) (draft 4 6 4 0 0 0 0 0)) 32 ≡ at 7 4 n 0 0 0
   unfolding readOf stepOf signOf spacedOf shutOf takenOf numberOf worthOf
   pad-space =
-      let z : 0 ≤ n = omega arith in
-      let m : n ≤ 255 = omega arith in
       let q : n % 256 ≡ n = omega arith in
-      rw (le-leb 0 n z, le-leb n 255 m, q)
+      rw (le-leb 0 n (omega arith), le-leb n 255 (omega arith), q)
 
   pad-sign : (t : List ℕ) → quietly (at 7 4 n 0 0 0) (36 ∷ t) ≡ quietly (reader (word 2 0 0) (draft 4 7 4 n 0 0 0 0)) t
   unfolding quietly readOf stepOf plainOf signOf dollarOf
   pad-sign t = refl
 
-  pad-dollar : (t : List ℕ) → quietly (reader (word 6 n 0) (draft 4 6 4 0 0 0 0 0)) (32 ∷ 36 ∷ t) ≡ quietly (reader (word 2 0 0) (draft 4 7 4 n 0 0 0 0)) t
+  pad-dollar : (t : List ℕ) → quietly (reader (word 6 n 0) (draft 4 6 4 0 0 0 0 0)) (codes " $" ++ t) ≡ quietly (reader (word 2 0 0) (draft 4 7 4 n 0 0 0 0)) t
   unfolding quietly
   pad-dollar t = ap (λ (x : Reader). quietly x (36 ∷ t)) pad-space ∙ pad-sign t
 
   -- the word of a pad row
-  pad-end : (a h : ℕ) → a < 256 → h < 256 → quietly (reader (word 3 (h * 256 + a) 0) (draft 4 7 4 n 0 0 0 0)) (10 ∷ []) ≡ before 4 4 n a h 0 3
+  pad-end : (a h : ℕ) → a < 256 → h < 256 → quietly (reader (word 3 (h * 256 + a) 0) (draft 4 7 4 n 0 0 0 0)) (codes "\n") ≡ before 4 4 n a h 0 3
   unfolding quietly readOf stepOf signOf shutOf takenOf numberOf worthOf lineOf closingOf
   pad-end a h la lh =
-      let z : 0 ≤ h * 256 + a = omega arith in
-      let m : h * 256 + a ≤ 65535 = omega arith in
       let q : (h * 256 + a) / 256 ≡ h = omega arith in
       let u : (h * 256 + a) % 256 ≡ a = omega arith in
       let v : h % 256 ≡ h = omega arith in
-      rw (le-leb 0 (h * 256 + a) z, le-leb (h * 256 + a) 65535 m, u, q, v)
+      rw (le-leb 0 (h * 256 + a) (omega arith), le-leb (h * 256 + a) 65535 (omega arith), u, q, v)
 
   -- a pad row comes back
   pub pad-back : (a h k x₁ x₂ x₃ x₄ : ℕ) → a < 256 → h < 256 → (p : ℕ) → Open p
       → quietly (before p k x₁ x₂ x₃ x₄ 0) (padText n a h) ≡ before 4 4 n a h 0 3
   unfolding padText
   pad-back a h k x₁ x₂ x₃ x₄ la lh p o =
-      pad-word k x₁ x₂ x₃ x₄ (decimal n ++ wordText a h) p o
+      row-word k x₁ x₂ x₃ x₄ (decimal n ++ wordText a h) p o pad-row
       ∙ decimal-back 4 6 4 0 0 0 0 n (wordText a h) (omega arith)
       ∙ pad-dollar (glyphOf (h / 16) ∷ glyphOf h ∷ glyphOf (a / 16) ∷ glyphOf a ∷ 10 ∷ [])
-      ∙ byte-2 4 7 4 n 0 0 0 (glyphOf (a / 16) ∷ glyphOf a ∷ 10 ∷ []) 0 h lh
-      ∙ byte-3 4 7 4 n 0 0 0 (10 ∷ []) h 0 a (omega arith) la
+      ∙ byte-first 4 7 4 n 0 0 0 plain (glyphOf (a / 16) ∷ glyphOf a ∷ 10 ∷ []) 0 h lh
+      ∙ byte-more 4 7 4 n 0 0 0 plain (codes "\n") h 0 a (omega arith) la
       ∙ pad-end a h la lh
 
   -- the port of a plug row
   plug-space : readOf (reader (word 6 n 0) (draft 4 17 5 0 0 0 0 0)) 32 ≡ at 9 5 n 0 0 0
   unfolding readOf stepOf signOf spacedOf shutOf takenOf numberOf worthOf
   plug-space =
-      let z : 0 ≤ n = omega arith in
-      let m : n ≤ 255 = omega arith in
       let q : n % 256 ≡ n = omega arith in
-      rw (le-leb 0 n z, le-leb n 255 m, q)
+      rw (le-leb 0 n (omega arith), le-leb n 255 (omega arith), q)
 
   -- on, off
   switch : (b : Bool) → quietly (at 9 5 n 0 0 0) (onOff b) ≡ before 4 5 n (bit b) 0 0 3
@@ -131,10 +103,10 @@ module _ (n : ℕ) (l : n < 256) where
       → quietly (before p k x₁ x₂ x₃ x₄ 0) (plugText n (bit b)) ≡ before 4 5 n (bit b) 0 0 3
   unfolding plugText
   plug-back true k x₁ x₂ x₃ x₄ p o =
-      plug-word k x₁ x₂ x₃ x₄ (decimal n ++ onWord) p o
-      ∙ decimal-back 4 17 5 0 0 0 0 n onWord (omega arith)
+      row-word k x₁ x₂ x₃ x₄ (decimal n ++ codes " on\n") p o plug-row
+      ∙ decimal-back 4 17 5 0 0 0 0 n (codes " on\n") (omega arith)
       ∙ plug-rest true
   plug-back false k x₁ x₂ x₃ x₄ p o =
-      plug-word k x₁ x₂ x₃ x₄ (decimal n ++ offWord) p o
-      ∙ decimal-back 4 17 5 0 0 0 0 n offWord (omega arith)
+      row-word k x₁ x₂ x₃ x₄ (decimal n ++ codes " off\n") p o plug-row
+      ∙ decimal-back 4 17 5 0 0 0 0 n (codes " off\n") (omega arith)
       ∙ plug-rest false

@@ -49,6 +49,9 @@ module _ (x : ℕ) where
   small : x % 16 < 16
   small = omega arith
 
+  nought : 0 * 16 + x % 16 ≡ x % 16
+  nought = omega arith
+
   glyph-digit : digitOf (glyphOf x) ≡ x % 16
   unfolding glyphOf
   glyph-digit = digit-back (ltb (x % 16) 10) (x % 16) refl small
@@ -69,59 +72,44 @@ module _ (y : ℕ) (h : y < 10) where
   pub ten-sign : signOf (48 + y) ≡ 0
   ten-sign = ap signOf same ∙ glyph-sign y
 
+-- a word's form behind `$` and, with a colon, behind a bank: before the digits and with them
+pub data Hex : ℕ → ℕ → Type 0 where
+  plain : Hex 2 3
+  banked : Hex 4 5
+
 -- a quiet draft
 module _ (p s k x₁ x₂ x₃ x₄ : ℕ) where
   abbrev quiet : Draft
   quiet = draft p s k x₁ x₂ x₃ x₄ 0
 
-  -- a digit of a number behind `$`, in form 3 (and 5 behind a colon)
-  pub hex-3 : (t : List ℕ) (v b x : ℕ) → v < 72057594037927936
-      → quietly (reader (word 3 v b) quiet) (glyphOf x ∷ t) ≡ quietly (reader (word 3 (v * 16 + x % 16) b) quiet) t
+  -- the first digit of a number
+  hex-first : {e f : ℕ} → Hex e f → (t : List ℕ) (b x : ℕ)
+      → quietly (reader (word e 0 b) quiet) (glyphOf x ∷ t) ≡ quietly (reader (word f (x % 16) b) quiet) t
   unfolding quietly readOf stepOf plainOf letterOf
-  hex-3 t v b x h = rw (glyph-sign x, glyph-digit x, lt-ltb (x % 16) 16 (small x), lt-ltb v 72057594037927936 h)
+  hex-first plain t b x = rw (glyph-sign x, glyph-digit x, lt-ltb (x % 16) 16 (small x), nought x)
+  hex-first banked t b x = rw (glyph-sign x, glyph-digit x, lt-ltb (x % 16) 16 (small x), nought x)
 
-  pub hex-2 : (t : List ℕ) (b x : ℕ) → quietly (reader (word 2 0 b) quiet) (glyphOf x ∷ t) ≡ quietly (reader (word 3 (x % 16) b) quiet) t
+  -- one digit more
+  hex-more : {e f : ℕ} → Hex e f → (t : List ℕ) (v b x : ℕ) → v < 72057594037927936
+      → quietly (reader (word f v b) quiet) (glyphOf x ∷ t) ≡ quietly (reader (word f (v * 16 + x % 16) b) quiet) t
   unfolding quietly readOf stepOf plainOf letterOf
-  hex-2 t b x =
-      let z : 0 * 16 + x % 16 ≡ x % 16 = omega arith in
-      rw (glyph-sign x, glyph-digit x, lt-ltb (x % 16) 16 (small x), z)
+  hex-more plain t v b x h = rw (glyph-sign x, glyph-digit x, lt-ltb (x % 16) 16 (small x), lt-ltb v 72057594037927936 h)
+  hex-more banked t v b x h = rw (glyph-sign x, glyph-digit x, lt-ltb (x % 16) 16 (small x), lt-ltb v 72057594037927936 h)
 
-  pub hex-5 : (t : List ℕ) (v b x : ℕ) → v < 72057594037927936
-      → quietly (reader (word 5 v b) quiet) (glyphOf x ∷ t) ≡ quietly (reader (word 5 (v * 16 + x % 16) b) quiet) t
-  unfolding quietly readOf stepOf plainOf letterOf
-  hex-5 t v b x h = rw (glyph-sign x, glyph-digit x, lt-ltb (x % 16) 16 (small x), lt-ltb v 72057594037927936 h)
+  module _ {e f : ℕ} (n : Hex e f) where
+    -- the two digits of its first byte
+    pub byte-first : (t : List ℕ) (b x : ℕ) → x < 256
+        → quietly (reader (word e 0 b) quiet) (glyphOf (x / 16) ∷ glyphOf x ∷ t) ≡ quietly (reader (word f x b) quiet) t
+    byte-first t b x h =
+        let i : x / 16 % 16 * 16 + x % 16 ≡ x = omega arith in
+        let l : x / 16 % 16 < 72057594037927936 = omega arith in
+        hex-first n (glyphOf x ∷ t) b (x / 16) ∙ hex-more n t (x / 16 % 16) b x l ∙ rw i
 
-  pub hex-4 : (t : List ℕ) (b x : ℕ) → quietly (reader (word 4 0 b) quiet) (glyphOf x ∷ t) ≡ quietly (reader (word 5 (x % 16) b) quiet) t
-  unfolding quietly readOf stepOf plainOf letterOf
-  hex-4 t b x =
-      let z : 0 * 16 + x % 16 ≡ x % 16 = omega arith in
-      rw (glyph-sign x, glyph-digit x, lt-ltb (x % 16) 16 (small x), z)
-
-  -- the two digits of a byte
-  pub byte-2 : (t : List ℕ) (b x : ℕ) → x < 256 → quietly (reader (word 2 0 b) quiet) (glyphOf (x / 16) ∷ glyphOf x ∷ t) ≡ quietly (reader (word 3 x b) quiet) t
-  byte-2 t b x h =
-      let e : x / 16 % 16 * 16 + x % 16 ≡ x = omega arith in
-      let l : x / 16 % 16 < 72057594037927936 = omega arith in
-      hex-2 (glyphOf x ∷ t) b (x / 16) ∙ hex-3 t (x / 16 % 16) b x l ∙ rw e
-
-  pub byte-3 : (t : List ℕ) (v b x : ℕ) → v < 65536 → x < 256
-      → quietly (reader (word 3 v b) quiet) (glyphOf (x / 16) ∷ glyphOf x ∷ t) ≡ quietly (reader (word 3 (v * 256 + x) b) quiet) t
-  byte-3 t v b x k h =
-      let e : (v * 16 + x / 16 % 16) * 16 + x % 16 ≡ v * 256 + x = omega arith in
-      let l : v < 72057594037927936 = omega arith in
-      let m : v * 16 + x / 16 % 16 < 72057594037927936 = omega arith in
-      hex-3 (glyphOf x ∷ t) v b (x / 16) l ∙ hex-3 t (v * 16 + x / 16 % 16) b x m ∙ rw e
-
-  pub byte-4 : (t : List ℕ) (b x : ℕ) → x < 256 → quietly (reader (word 4 0 b) quiet) (glyphOf (x / 16) ∷ glyphOf x ∷ t) ≡ quietly (reader (word 5 x b) quiet) t
-  byte-4 t b x h =
-      let e : x / 16 % 16 * 16 + x % 16 ≡ x = omega arith in
-      let l : x / 16 % 16 < 72057594037927936 = omega arith in
-      hex-4 (glyphOf x ∷ t) b (x / 16) ∙ hex-5 t (x / 16 % 16) b x l ∙ rw e
-
-  pub byte-5 : (t : List ℕ) (v b x : ℕ) → v < 65536 → x < 256
-      → quietly (reader (word 5 v b) quiet) (glyphOf (x / 16) ∷ glyphOf x ∷ t) ≡ quietly (reader (word 5 (v * 256 + x) b) quiet) t
-  byte-5 t v b x k h =
-      let e : (v * 16 + x / 16 % 16) * 16 + x % 16 ≡ v * 256 + x = omega arith in
-      let l : v < 72057594037927936 = omega arith in
-      let m : v * 16 + x / 16 % 16 < 72057594037927936 = omega arith in
-      hex-5 (glyphOf x ∷ t) v b (x / 16) l ∙ hex-5 t (v * 16 + x / 16 % 16) b x m ∙ rw e
+    -- one byte more
+    pub byte-more : (t : List ℕ) (v b x : ℕ) → v < 65536 → x < 256
+        → quietly (reader (word f v b) quiet) (glyphOf (x / 16) ∷ glyphOf x ∷ t) ≡ quietly (reader (word f (v * 256 + x) b) quiet) t
+    byte-more t v b x k h =
+        let i : (v * 16 + x / 16 % 16) * 16 + x % 16 ≡ v * 256 + x = omega arith in
+        let l : v < 72057594037927936 = omega arith in
+        let m : v * 16 + x / 16 % 16 < 72057594037927936 = omega arith in
+        hex-more n (glyphOf x ∷ t) v b (x / 16) l ∙ hex-more n t (v * 16 + x / 16 % 16) b x m ∙ rw i

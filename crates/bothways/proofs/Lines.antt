@@ -6,14 +6,14 @@ use mathlib.Core.Path.{_≡_, refl, sym, ap, subst, _∙_}
 use native.Mathlib.Omega.{arith}
 use lib.ListN.{length, take, drop}
 use lib.Seq.{take-add, drop-drop, take-all}
-use Rattle.append.specs.Texts.{each}
+use Rattle.append.specs.Texts.{codes, each}
 use Rattle.append.specs.Sheet.{Sheet, puts}
 use Rattle.append.proofs.Laws.{then}
 use Rattle.fields.specs.Bytes.{partOf}
 use Rattle.common.specs.Width.{Bytes}
 use Rattle.benchfile.specs.Row.{formedRow, rowBytes}
 use Rattle.benchfile.specs.File.{scriptFormed}
-use Rattle.benchfile.proofs.Parts.{part-bytes}
+use Rattle.fields.proofs.Parts.{part-bytes}
 use Rattle.benchfile.proofs.Rows.{script}
 use Rattle.reader.specs.Letter.{signOf, digitOf}
 use Rattle.reader.specs.Word.{word, letterOf, dollarOf, worthOf}
@@ -26,7 +26,7 @@ use Rattle.lister.specs.Row.{rowText}
 use Rattle.lister.specs.List.{rowsText, scriptText}
 use Rattle.assembler.specs.Desk.{State, stepped, runs, made}
 use Rattle.bothways.proofs.Quietly.{quietly}
-use Rattle.bothways.proofs.Digits.{byte-2}
+use Rattle.bothways.proofs.Digits.{plain, byte-first}
 use Rattle.bothways.proofs.Rows.{Open, rows, before}
 use Rattle.bothways.proofs.Between.{Rest, line-runs, row-line}
 use lib.Dec.{eqb}
@@ -40,10 +40,10 @@ phaseOf b (x ∷ l) = late b
 -- the word and the first byte
 module _ (k x₁ x₂ x₃ x₄ : ℕ) (z : ℕ) (lz : z < 256) where
   abbrev start : List ℕ
-  start = 32 ∷ 36 ∷ glyphOf (z / 16) ∷ glyphOf z ∷ []
+  start = codes " $" ++ glyphOf (z / 16) ∷ glyphOf z ∷ []
 
   word-dollar : (b : Section) (a t : List ℕ)
-      → quietly (before (phaseOf b a) k x₁ x₂ x₃ x₄ 0) (wordOf b ++ (32 ∷ 36 ∷ t)) ≡ quietly (reader (word 2 0 0) (draft (late b) (firstOf b) (kindOf b) 0 0 0 0 0)) t
+      → quietly (before (phaseOf b a) k x₁ x₂ x₃ x₄ 0) (wordOf b ++ (codes " $" ++ t)) ≡ quietly (reader (word 2 0 0) (draft (late b) (firstOf b) (kindOf b) 0 0 0 0 0)) t
   unfolding quietly readOf stepOf plainOf letterOf signOf digitOf dollarOf spacedOf shutOf takenOf namedOf keywordOf worthOf
   word-dollar fill [] t = refl
   word-dollar fill (x ∷ a) t = refl
@@ -54,7 +54,7 @@ module _ (k x₁ x₂ x₃ x₄ : ℕ) (z : ℕ) (lz : z < 256) where
   unfolding quietly
   opening b a =
       word-dollar b a (glyphOf (z / 16) ∷ glyphOf z ∷ [])
-      ∙ byte-2 (late b) (firstOf b) (kindOf b) 0 0 0 0 [] 0 z lz
+      ∙ byte-first (late b) (firstOf b) (kindOf b) 0 0 0 0 plain [] 0 z lz
 
 -- the first character of the word, and the others
 abbrev pub head : Section → ℕ
@@ -62,15 +62,15 @@ head fill = 102
 head rom = 114
 
 abbrev pub letters : Section → List ℕ
-letters fill = 105 ∷ 108 ∷ 108 ∷ []
-letters rom = 111 ∷ 109 ∷ []
+letters fill = codes "ill"
+letters rom = codes "om"
 
 pub lettered : (b : Section) (t : List ℕ) → wordOf b ++ t ≡ head b ∷ (letters b ++ t)
 lettered fill t = refl
 lettered rom t = refl
 
-pub parted : (b : Section) (z : ℕ) (t : List ℕ) → wordOf b ++ (32 ∷ 36 ∷ glyphOf (z / 16) ∷ glyphOf z ∷ t)
-    ≡ (head b ∷ (letters b ++ (32 ∷ 36 ∷ glyphOf (z / 16) ∷ glyphOf z ∷ []))) ++ t
+pub parted : (b : Section) (z : ℕ) (t : List ℕ) → wordOf b ++ (codes " $" ++ glyphOf (z / 16) ∷ glyphOf z ∷ t)
+    ≡ (head b ∷ (letters b ++ (codes " $" ++ glyphOf (z / 16) ∷ glyphOf z ∷ []))) ++ t
 parted fill z t = refl
 parted rom z t = refl
 
@@ -84,23 +84,23 @@ module _ (file : List ℕ) (b : Section) (f o s : Sheet) where
     abbrev was : State
     was = made (before (phaseOf b a) (r .kind) (r .b1) (r .b2) (r .b3) (r .b4) (r .emit)) (puts f (toFront b a)) (puts o (toRom b a)) s
 
-    opened : runs file was (head b ∷ (letters b ++ (32 ∷ 36 ∷ glyphOf (z / 16) ∷ glyphOf z ∷ [])))
+    opened : runs file was (head b ∷ (letters b ++ (codes " $" ++ glyphOf (z / 16) ∷ glyphOf z ∷ [])))
         ≡ made (byteRead b true z 0) (puts f (toFront b a)) (puts o (toRom b a)) s
     opened =
         line-runs (phaseOf b a) (r .kind) (r .b1) (r .b2) (r .b3) (r .b4) (r .emit) (r .fine) (byteRead b true z 0) refl file
-        (puts f (toFront b a)) (puts o (toRom b a)) s (head b) (letters b ++ (32 ∷ 36 ∷ glyphOf (z / 16) ∷ glyphOf z ∷ []))
+        (puts f (toFront b a)) (puts o (toRom b a)) s (head b) (letters b ++ (codes " $" ++ glyphOf (z / 16) ∷ glyphOf z ∷ []))
         (ap (quietly (before (phaseOf b a) (r .kind) (r .b1) (r .b2) (r .b3) (r .b4) 0))
-        (sym (lettered b (32 ∷ 36 ∷ glyphOf (z / 16) ∷ glyphOf z ∷ [])))
+        (sym (lettered b (codes " $" ++ glyphOf (z / 16) ∷ glyphOf z ∷ [])))
         ∙ opening (r .kind) (r .b1) (r .b2) (r .b3) (r .b4) z (small .0) b a)
         ∙ nothing file b (puts f (toFront b a)) (puts o (toRom b a)) s z 0 true
 
     ran : runs file k (lineText (wordOf b) (z ∷ l)) ≡ gained b (lineRead b (lastOf z l)) (puts f (toFront b a)) (puts o (toRom b a)) s (z ∷ l)
     unfolding lineText flatMap runs
     ran =
-        ap (λ (x : State). runs file x (wordOf b ++ (32 ∷ 36 ∷ glyphOf (z / 16) ∷ glyphOf z ∷ (bytesText l ++ (10 ∷ []))))) (r .is)
-        ∙ ap (runs file was) (parted b z (bytesText l ++ (10 ∷ [])))
-        ∙ foldl-append (stepped file) was (head b ∷ (letters b ++ (32 ∷ 36 ∷ glyphOf (z / 16) ∷ glyphOf z ∷ []))) (bytesText l ++ (10 ∷ []))
-        ∙ ap (λ (x : State). runs file x (bytesText l ++ (10 ∷ []))) opened
+        ap (λ (x : State). runs file x (wordOf b ++ (codes " $" ++ glyphOf (z / 16) ∷ glyphOf z ∷ (bytesText l ++ codes "\n")))) (r .is)
+        ∙ ap (runs file was) (parted b z (bytesText l ++ codes "\n"))
+        ∙ foldl-append (stepped file) was (head b ∷ (letters b ++ (codes " $" ++ glyphOf (z / 16) ∷ glyphOf z ∷ []))) (bytesText l ++ codes "\n")
+        ∙ ap (λ (x : State). runs file x (bytesText l ++ codes "\n")) opened
         ∙ bytes-run file b true (puts f (toFront b a)) (puts o (toRom b a)) s z 0 l small
 
   phase-more : (a : List ℕ) (z : ℕ) (l : List ℕ) → phaseOf b (a ++ (z ∷ l)) ≡ late b

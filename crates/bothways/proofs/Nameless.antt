@@ -5,13 +5,13 @@ use mathlib.Core.List.{List, [], _∷_, _++_, flatMap}
 use mathlib.Core.Path.{_≡_, refl, sym, ap, subst, _∙_}
 use native.Mathlib.Omega.{arith}
 use lib.ListN.{length}
-use Rattle.append.specs.Texts.{each}
+use Rattle.append.specs.Texts.{codes, each}
 use Rattle.append.specs.Sheet.{Sheet, puts}
 use Rattle.fields.specs.Bytes.{byteAt, partOf}
 use Rattle.common.specs.Width.{Bytes}
 use Rattle.benchfile.specs.Row.{formedRow, rowBytes}
 use Rattle.benchfile.specs.File.{scriptFormed}
-use Rattle.benchfile.proofs.Parts.{part-bytes}
+use Rattle.fields.proofs.Parts.{part-bytes}
 use Rattle.benchfile.proofs.Rows.{script}
 use Rattle.reader.specs.declared.reader.Reader.{Reader}
 use Rattle.reader.specs.Reader.{startOf, readOf, reads}
@@ -33,11 +33,11 @@ pub settings-nameless : (n : ℕ) → n < 65536 → Unnamed startOf (settingsTex
 settings-nameless n h = quietly-unnamed (before 1 8 (n % 256) (n / 256) 0 0 2) refl startOf (settingsText n) (settings-back n h)
 
 -- the bytes behind x
-bytes-nameless : (b : Section) (i : Bool) (x y : ℕ) (l : List ℕ) → Bytes (x ∷ l) → Unnamed (byteRead b i x y) (bytesText l ++ (10 ∷ []))
+bytes-nameless : (b : Section) (i : Bool) (x y : ℕ) (l : List ℕ) → Bytes (x ∷ l) → Unnamed (byteRead b i x y) (bytesText l ++ codes "\n")
 unfolding flatMap
 bytes-nameless b i x y [] h = unnamed-next (byteRead b i x y) 10 [] refl (unnamed-none (readOf (byteRead b i x y) 10))
 bytes-nameless b i x y (z ∷ l) h =
-    let t : List ℕ = bytesText l ++ (10 ∷ []) in
+    let t : List ℕ = bytesText l ++ codes "\n" in
     let two : List ℕ = glyphOf (z / 16) ∷ glyphOf z ∷ [] in
     let d = digits b x z (h .1 .0) in
     let after : reads (dollarRead b x) two ≡ byteRead b false z x = quietly-reads (byteRead b false z x) refl (dollarRead b x) two d in
@@ -56,13 +56,13 @@ module _ (file : List ℕ) (b : Section) (f o s : Sheet) where
   unfolding lineText flatMap
   line-nameless a [] k r small = unnamed-none (k .reader)
   line-nameless a (z ∷ l) k r small =
-      let t : List ℕ = bytesText l ++ (10 ∷ []) in
-      let u : List ℕ = letters b ++ (32 ∷ 36 ∷ glyphOf (z / 16) ∷ glyphOf z ∷ []) in
+      let t : List ℕ = bytesText l ++ codes "\n" in
+      let u : List ℕ = letters b ++ (codes " $" ++ glyphOf (z / 16) ∷ glyphOf z ∷ []) in
       let q : Reader = byteRead b true z 0 in
       let was : Reader = before (phaseOf b a) (r .kind) (r .b1) (r .b2) (r .b3) (r .b4) (r .emit) in
       let e : quietly (before (phaseOf b a) (r .kind) (r .b1) (r .b2) (r .b3) (r .b4) 0) (head b ∷ u) ≡ byteRead b true z 0 =
       ap (quietly (before (phaseOf b a) (r .kind) (r .b1) (r .b2) (r .b3) (r .b4) 0))
-      (sym (lettered b (32 ∷ 36 ∷ glyphOf (z / 16) ∷ glyphOf z ∷ [])))
+      (sym (lettered b (codes " $" ++ glyphOf (z / 16) ∷ glyphOf z ∷ [])))
       ∙ opening (r .kind) (r .b1) (r .b2) (r .b3) (r .b4) z (small .0) b a in
       let first : Unnamed was (head b ∷ u) =
       line-unnamed q refl (phaseOf b a) (r .kind) (r .b1) (r .b2) (r .b3) (r .b4) (r .emit) (r .fine) (head b ∷ u) e in
@@ -70,9 +70,9 @@ module _ (file : List ℕ) (b : Section) (f o s : Sheet) where
       line-reads (phaseOf b a) (r .kind) (r .b1) (r .b2) (r .b3) (r .b4) (r .emit) (r .fine) q refl (head b) u e in
       let rest : Unnamed (reads was (head b ∷ u)) t = subst (λ (x : Reader). Unnamed x t) (sym after) (bytes-nameless b true z 0 l small) in
       let whole : Unnamed was ((head b ∷ u) ++ t) = unnamed-append was (head b ∷ u) t first rest in
-      let there : Unnamed was (wordOf b ++ (32 ∷ 36 ∷ glyphOf (z / 16) ∷ glyphOf z ∷ t)) =
+      let there : Unnamed was (wordOf b ++ (codes " $" ++ glyphOf (z / 16) ∷ glyphOf z ∷ t)) =
       subst (λ (x : List ℕ). Unnamed was x) (sym (parted b z t)) whole in
-      subst (λ (x : State). Unnamed (x .reader) (wordOf b ++ (32 ∷ 36 ∷ glyphOf (z / 16) ∷ glyphOf z ∷ t))) (sym (r .is)) there
+      subst (λ (x : State). Unnamed (x .reader) (wordOf b ++ (codes " $" ++ glyphOf (z / 16) ∷ glyphOf z ∷ t))) (sym (r .is)) there
 
   module _ (l : List ℕ) (small : Bytes l) where
     from-nameless : (n i : ℕ) (a : List ℕ) (k : State) → Holds file b f o s a k → Unnamed (k .reader) (linesFrom (wordOf b) l n i)

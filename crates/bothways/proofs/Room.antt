@@ -5,7 +5,7 @@ use mathlib.Core.Path.{_≡_, refl}
 use native.Mathlib.Omega.{arith}
 use lib.Dec.{eqb}
 use lib.ListN.{length, take, drop, length-append}
-use Rattle.append.specs.Texts.{each}
+use Rattle.append.specs.Texts.{codes, each}
 use Rattle.common.proofs.AllLaws.{_also_, byte-fits}
 use Rattle.common.specs.Pick.{pick}
 use Rattle.common.specs.Table.{at}
@@ -14,11 +14,11 @@ use Rattle.fields.specs.Bytes.{byteAt, partOf}
 use Rattle.common.specs.Width.{Bytes}
 use Rattle.fields.specs.Little.{field}
 use Rattle.benchfile.specs.Row.{rowBytes}
-use Rattle.benchfile.proofs.Parts.{part-bytes}
+use Rattle.fields.proofs.Parts.{part-bytes}
 use Rattle.append.proofs.Decimal.{short}
 use Rattle.append.specs.Number.{decimal}
 use Rattle.lister.specs.Body.{bytesText, lineText, linesFrom, linesText}
-use Rattle.lister.specs.Row.{eventText, flagsText, cyclesText, padText, plugText, backText, lineWord, timerWord, onWord, offWord, texts, rowText}
+use Rattle.lister.specs.Row.{eventText, flagsText, cyclesText, padText, plugText, backText, texts, rowText}
 use Rattle.lister.specs.List.{rowsText, scriptText, settingsText}
 
 abbrev Short : ℕ → List ℕ → Type 0
@@ -36,7 +36,7 @@ event-short e h =
 flags-short : (f : ℕ) → Short 11 (flagsText f)
 unfolding flagsText
 flags-short f =
-    find-elim (Short 11) (at 1 lineWord ∷ at 2 timerWord ∷ at 3 (lineWord ++ timerWord) ∷ []) f
+    find-elim (Short 11) (at 1 (codes " line") ∷ at 2 (codes " timer") ∷ at 3 (codes " line timer") ∷ []) f
     (omega arith also omega arith also omega arith also tt) (omega arith)
 
 cycles-short : (n e f : ℕ) → n < 65536 → e < 65536 → Short 36 (cyclesText n e f)
@@ -50,7 +50,7 @@ pad-short p l h k = simp length-append (omega (arith, decimal-short p k))
 plug-short : (p on : ℕ) → p < 65536 → Short 36 (plugText p on)
 unfolding plugText
 plug-short p on h =
-    let w : Short 5 (pick (eqb on 1) onWord offWord) = pick-elim (Short 5) (eqb on 1) (omega arith) (omega arith) in
+    let w : Short 5 (pick (eqb on 1) (codes " on\n") (codes " off\n")) = pick-elim (Short 5) (eqb on 1) (omega arith) (omega arith) in
     simp length-append (omega (arith, decimal-short p h, w))
 
 back-short : (n : ℕ) → n < 65536 → Short 36 (backText n)

@@ -21,7 +21,7 @@ use Rattle.benchfile.proofs.RowBytes.{bytes-row}
 use Rattle.reader.specs.Draft.{draft}
 use Rattle.assembler.specs.Desk.{scriptOf}
 use Rattle.benchfile.proofs.Found.{Holds, found}
-use Rattle.benchfile.proofs.Parts.{listed}
+use Rattle.fields.proofs.Parts.{listed}
 use Rattle.benchfile.proofs.Numbers.{lo-back, hi-back}
 use Rattle.bothways.proofs.Quietly.{quietly}
 use Rattle.lister.specs.Row.{rowText}

@@ -8,14 +8,15 @@ use lib.ListN.{length}
 use lib.Seq.{take-all}
 use Rattle.common.proofs.AllLaws.{byte-fits}
 use Rattle.append.specs.Sheet.{Sheet, puts}
+use Rattle.append.specs.Texts.{codes}
 use Rattle.fields.specs.Bytes.{byteAt}
 use Rattle.common.specs.Width.{Bytes}
 use Rattle.fields.specs.Little.{field}
 use Rattle.benchfile.specs.File.{scriptFormed}
 use Rattle.benchfile.proofs.Numbers.{lo-back, hi-back}
-use Rattle.benchfile.proofs.Parts.{listed}
+use Rattle.fields.proofs.Parts.{listed}
 use Rattle.reader.specs.Reader as reading
-use Rattle.lister.specs.Body.{linesText, fillWord, romWord}
+use Rattle.lister.specs.Body.{linesText}
 use Rattle.lister.specs.List.{settingsText, scriptText}
 use Rattle.assembler.specs.Desk.{State, stepped, runs, made}
 use Rattle.bothways.proofs.Rows as phases
@@ -60,17 +61,17 @@ module _ (file a b c d : List ℕ) (sa : Bytes a) (sb : Bytes b) (sc : Bytes c) 
       rw (lo-back (byteAt a 0) (byteAt a 1) (byte-fits a 0 sa), hi-back (byteAt a 0) (byteAt a 1) (byte-fits a 0 sa)) e
 
   abbrev pub text : List ℕ
-  text = settingsText number ++ (linesText fillWord b ++ (linesText romWord c ++ scriptText d))
+  text = settingsText number ++ (linesText (codes "fill") b ++ (linesText (codes "rom") c ++ scriptText d))
 
   module _ (f o s : Sheet) where
     abbrev k₁ : State
     k₁ = runs file (made reading.startOf f o s) (settingsText number)
 
     abbrev k₂ : State
-    k₂ = runs file k₁ (linesText fillWord b)
+    k₂ = runs file k₁ (linesText (codes "fill") b)
 
     abbrev k₃ : State
-    k₃ = runs file k₂ (linesText romWord c)
+    k₃ = runs file k₂ (linesText (codes "rom") c)
 
     said-1 : Rest 1 (puts f a) o s k₁
     said-1 = subst (λ (l : List ℕ). Rest 1 (puts f l) o s k₁) pair (settings-line number small file f o s)
@@ -84,9 +85,9 @@ module _ (file a b c d : List ℕ) (sa : Bytes a) (sb : Bytes b) (sc : Bytes c) 
     joined : runs file (made reading.startOf f o s) text ≡ runs file k₃ (scriptText d)
     unfolding runs
     joined =
-        foldl-append (stepped file) (made reading.startOf f o s) (settingsText number) (linesText fillWord b ++ (linesText romWord c ++ scriptText d))
-        ∙ foldl-append (stepped file) k₁ (linesText fillWord b) (linesText romWord c ++ scriptText d)
-        ∙ foldl-append (stepped file) k₂ (linesText romWord c) (scriptText d)
+        foldl-append (stepped file) (made reading.startOf f o s) (settingsText number) (linesText (codes "fill") b ++ (linesText (codes "rom") c ++ scriptText d))
+        ∙ foldl-append (stepped file) k₁ (linesText (codes "fill") b) (linesText (codes "rom") c ++ scriptText d)
+        ∙ foldl-append (stepped file) k₂ (linesText (codes "rom") c) (scriptText d)
 
     pub says : Scripted file (puts (puts f a) b) (puts o c) s d (runs file (made reading.startOf f o s) text)
     says =
@@ -96,9 +97,9 @@ module _ (file a b c d : List ℕ) (sa : Bytes a) (sb : Bytes b) (sc : Bytes c) 
     -- and no character of it belongs to a file name
     pub nameless : Unnamed reading.startOf text
     nameless =
-        unnamed-runs file (made reading.startOf f o s) (settingsText number) (linesText fillWord b ++ (linesText romWord c ++ scriptText d))
+        unnamed-runs file (made reading.startOf f o s) (settingsText number) (linesText (codes "fill") b ++ (linesText (codes "rom") c ++ scriptText d))
         (settings-nameless number small)
-        (unnamed-runs file k₁ (linesText fillWord b) (linesText romWord c ++ scriptText d)
+        (unnamed-runs file k₁ (linesText (codes "fill") b) (linesText (codes "rom") c ++ scriptText d)
         (lines-nameless file body.fill (puts f a) o s b sb k₁ (to-fill file (puts f a) o s k₁ said-1))
-        (unnamed-runs file k₂ (linesText romWord c) (scriptText d) (lines-nameless file body.rom (puts (puts f a) b) o s c sc k₂ said-2)
+        (unnamed-runs file k₂ (linesText (codes "rom") c) (scriptText d) (lines-nameless file body.rom (puts (puts f a) b) o s c sc k₂ said-2)
         (script-nameless file (puts (puts f a) b) (puts o c) d sd formed s k₃ said-3)))

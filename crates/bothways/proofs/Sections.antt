@@ -9,7 +9,7 @@ use Rattle.common.specs.Pick.{pick}
 use Rattle.common.specs.Width.{Bytes}
 use Rattle.benchfile.specs.File.{startOf, sizeOf, bodyOf, scriptFormed, fileCheck, sectionNumber, sectionOf}
 use Rattle.benchfile.specs.Build.{build, Bench}
-use Rattle.benchfile.proofs.Parts.{part-bytes}
+use Rattle.fields.proofs.Parts.{part-bytes}
 use Rattle.benchfile.proofs.Scripts.{script-formed}
 use Rattle.benchfile.proofs.Format.{taken-apart, section-0, section-1, section-2, section-3}
 use Rattle.assembler.specs.Bind.{bound}

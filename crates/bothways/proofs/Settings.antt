@@ -12,7 +12,8 @@ use Rattle.reader.specs.Draft.{draft, keywordOf}
 use Rattle.reader.specs.Line.{numberOf, namedOf, takenOf, closingOf, lineOf}
 use Rattle.reader.specs.Reader.{reader, startOf, shutOf, spacedOf, plainOf, stepOf, readOf}
 use Rattle.append.specs.Number.{decimal}
-use Rattle.lister.specs.List.{bitcyclesWord, settingsText}
+use Rattle.append.specs.Texts.{codes}
+use Rattle.lister.specs.List.{settingsText}
 use Rattle.assembler.specs.Desk.{State, frontOf, romOf, scriptOf, runs, made, added}
 use Rattle.bothways.proofs.Quietly.{quietly, quietly-runs}
 use Rattle.bothways.proofs.Decimal.{decimal-back}
@@ -20,23 +21,21 @@ use Rattle.bothways.proofs.Rows.{before}
 use Rattle.bothways.proofs.Between.{Rest}
 
 -- `bitcycles `
-settings-word : (t : List ℕ) → quietly startOf (bitcyclesWord ++ t) ≡ quietly (reader (word 0 0 0) (draft 1 10 8 0 0 0 0 0)) t
+settings-word : (t : List ℕ) → quietly startOf (codes "bitcycles " ++ t) ≡ quietly (reader (word 0 0 0) (draft 1 10 8 0 0 0 0 0)) t
 unfolding quietly readOf stepOf plainOf letterOf signOf digitOf spacedOf shutOf takenOf namedOf keywordOf worthOf
 settings-word t = refl
 
 module _ (n : ℕ) (small : n < 65536) where
-  settings-end : quietly (reader (word 6 n 0) (draft 1 10 8 0 0 0 0 0)) (10 ∷ []) ≡ before 1 8 (n % 256) (n / 256) 0 0 2
+  settings-end : quietly (reader (word 6 n 0) (draft 1 10 8 0 0 0 0 0)) (codes "\n") ≡ before 1 8 (n % 256) (n / 256) 0 0 2
   unfolding quietly readOf stepOf signOf shutOf takenOf numberOf worthOf lineOf closingOf
   settings-end =
-      let z : 0 ≤ n = omega arith in
-      let m : n ≤ 65535 = omega arith in
       let q : n / 256 % 256 ≡ n / 256 = omega arith in
-      rw (le-leb 0 n z, le-leb n 65535 m, q)
+      rw (le-leb 0 n (omega arith), le-leb n 65535 (omega arith), q)
 
   -- the settings come back
   pub settings-back : quietly startOf (settingsText n) ≡ before 1 8 (n % 256) (n / 256) 0 0 2
   unfolding settingsText
-  settings-back = settings-word (decimal n ++ (10 ∷ [])) ∙ decimal-back 1 10 8 0 0 0 0 n (10 ∷ []) small ∙ settings-end
+  settings-back = settings-word (decimal n ++ codes "\n") ∙ decimal-back 1 10 8 0 0 0 0 n (codes "\n") small ∙ settings-end
 
   module _ (file : List ℕ) (f o s : Sheet) where
     abbrev done : Reader

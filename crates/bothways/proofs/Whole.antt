@@ -6,13 +6,13 @@ use native.Mathlib.Omega.{arith}
 use lib.ListN.{length, replicate, length-append}
 use Rattle.append.specs.Sheet.{Sheet, sheet, puts, shownOf}
 use Rattle.append.proofs.Laws.{then, puts-room}
+use Rattle.append.specs.Texts.{codes}
 use Rattle.common.proofs.AllLaws.{byte-fits}
 use Rattle.common.specs.Width.{Bytes}
 use Rattle.fields.specs.Little.{field}
 use Rattle.benchfile.specs.File.{fileCheck}
 use Rattle.benchfile.proofs.Built.{length-build}
 use Rattle.reader.specs.Reader.{startOf, unnamedOf}
-use Rattle.lister.specs.Body.{fillWord, romWord}
 use Rattle.lister.specs.List.{listText}
 use Rattle.assembler.specs.Desk.{State, stepped, runs, opened, gathered}
 use Rattle.assembler.specs.Assemble.{said, left, assembled}
@@ -45,8 +45,8 @@ module _ (f : List ℕ) (small : Bytes f) (sound : fileCheck f ≡ 0) where
       let h₀ = byte-fits settings 0 h in
       let h₁ = byte-fits settings 1 h in
       let a = settings-short (field 2 settings 0) (omega arith) in
-      let b = lines-short fillWord (omega arith) ram in
-      let c = lines-short romWord (omega arith) image in
+      let b = lines-short (codes "fill") (omega arith) ram in
+      let c = lines-short (codes "rom") (omega arith) image in
       let d = script-short script (of.bytes f small sound 3) in
       simp length-append (omega (arith, l, of.short f small sound, of.two f small sound, a, b, c, d))
 

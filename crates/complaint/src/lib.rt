@@ -1,8 +1,8 @@
 // What is wrong, in one line on standard error, and the place that a program takes as its argument. `name` is the program's.
 use append::number::decimal;
 use append::put;
-use benchfile::part::part;
 use dump::page::signs;
+use fields::part::part;
 use libc::ENAMETOOLONG;
 use libc::STDERR_FILENO;
 use wording::words;

@@ -19,7 +19,7 @@ pub fn trace() {
         os::fail(b"trace: standard input");
         return;
     }
-    if !output::write_trace(benchfile::part::part(&file, 0, got.n)) {
+    if !output::write_trace(fields::part::part(&file, 0, got.n)) {
         os::fail(b"trace: standard output");
     }
 }

@@ -1,7 +1,7 @@
 // The lines of a bench file on standard output, whole lines in few writes: what a buffer holds goes out when no further line has room.
 use bench::Bench;
-use benchfile::part::part;
 use benchfile::section::section_look;
+use fields::part::part;
 use libc::STDOUT_FILENO;
 use printout::rows::run_rows;
 use printout::start::begin;

@@ -1,23 +1,24 @@
 -- A page of work RAM (document 01, page look) as a hex dump (docs/BENCH.md), in characters' ASCII codes.
 use Prim.Native.Nat.{ℕ, _+_, _*_, _/_, _%_}
+use Prim.Native.Char.{code}
 use mathlib.Core.List.{List, [], _∷_, _++_, flatMap}
 use Rattle.common.specs.Pick.{pick}
 use Rattle.common.specs.Range.{within}
 use Rattle.fields.specs.Bytes.{partOf}
 use Rattle.append.specs.Number.{glyphOf, hexByte, hexes}
-use Rattle.append.specs.Texts.{each}
+use Rattle.append.specs.Texts.{codes, each}
 
 -- a printable character of ASCII as it is, any other byte as `.`
 unfoldable pub asciiOf : ℕ → ℕ
-asciiOf x = pick (within 32 127 x) x 46
+asciiOf x = pick (within 32 127 x) x (code ".")
 
 -- `7E:1230 `: bank, the page's two digits, the line's digit and 0; pages from 256 on are in bank $7F
 abbrev pub headText : ℕ → ℕ → List ℕ
-headText p k = 55 ∷ glyphOf (p / 256 % 2 + 14) ∷ 58 ∷ hexByte (p % 256) ++ glyphOf k ∷ 48 ∷ 32 ∷ []
+headText p k = codes "7" ++ glyphOf (p / 256 % 2 + 14) ∷ codes ":" ++ hexByte (p % 256) ++ glyphOf k ∷ codes "0 "
 
 -- ` 5A` for each byte
 abbrev pub bytesText : List ℕ → List ℕ
-bytesText = hexes (32 ∷ [])
+bytesText = hexes (codes " ")
 
 -- bytes as characters
 abbrev pub signsText : List ℕ → List ℕ
@@ -28,7 +29,7 @@ unfoldable pub lineText : ℕ → ℕ → List ℕ → List ℕ
 lineText p k s =
     headText p k
     ++ (bytesText (partOf s 0 8)
-    ++ ((32 ∷ []) ++ (bytesText (partOf s 8 8) ++ ((32 ∷ 32 ∷ 124 ∷ []) ++ (signsText s ++ (124 ∷ 10 ∷ []))))))
+    ++ (codes " " ++ (bytesText (partOf s 8 8) ++ (codes "  |" ++ (signsText s ++ codes "|\n")))))
 
 -- page p with bytes s: 16 lines of 16 bytes
 unfoldable pub pageText : ℕ → List ℕ → List ℕ

@@ -1,5 +1,6 @@
 -- A place in work RAM as a person writes it (docs/BENCH.md), read as an offset ($7E:0000 first). 131,072 is no place.
 use Prim.Native.Nat.{ℕ, _+_, _-_, _*_}
+use Prim.Native.Char.{code}
 use mathlib.Core.List.{List}
 use lib.Dec.{eqb, ltb}
 use lib.ListN.{length}
@@ -26,8 +27,8 @@ sixOf l k =
 
 -- `7E1234`, or `7E:1234`
 unfoldable pub bareOf : List ℕ → ℕ
-bareOf l = pick (eqb (length l) 6) (sixOf l 2) (pick (eqb (length l) 7) (pick (eqb (byteAt l 2) 58) (sixOf l 3) 131072) 131072)
+bareOf l = pick (eqb (length l) 6) (sixOf l 2) (pick (eqb (length l) 7) (pick (eqb (byteAt l 2) (code ":")) (sixOf l 3) 131072) 131072)
 
 -- the same, or with `$` in front
-unfoldable pub placeOf : List ℕ → ℕ
-placeOf l = pick (eqb (byteAt l 0) 36) (bareOf (partOf l 1 (length l))) (bareOf l)
+unfoldable pub offsetNamed : List ℕ → ℕ
+offsetNamed l = pick (eqb (byteAt l 0) (code "$")) (bareOf (partOf l 1 (length l))) (bareOf l)

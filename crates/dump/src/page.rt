@@ -7,7 +7,7 @@ use append::number::glyph;
 use append::number::hexes;
 use append::push_byte;
 use append::put;
-use benchfile::part::part;
+use fields::part::part;
 
 // A printable character as it is, any other byte as a dot.
 fn ascii(x: u8) -> u8

@@ -1,9 +1,9 @@
 // A place in work RAM as a person writes it: `$7E:1234`, `7E:1234`, `$7E1234`, `7E1234`.
 ghost use mathlib.Core.Path.{_≡_};
 ghost use denote.Ref.{now};
-ghost use Rattle.dump.specs.Place.{pairOf, offsetOf, sixOf, bareOf, placeOf};
-use benchfile::part::part;
-use benchfile::word::byte;
+ghost use Rattle.dump.specs.Place.{pairOf, offsetOf, sixOf, bareOf, offsetNamed};
+use fields::part::part;
+use fields::word::byte;
 use reader::letter::digit;
 
 // The number of two digits in base 16; 256 where one of them is none.
@@ -68,7 +68,7 @@ fn bare(s: &[u8]) -> u32
 
 // The offset that the text names, under 131,072; 131,072 where it names none.
 pub fn place(s: &[u8]) -> u32
-    ensures { λ r. ⌜ r ≡ placeOf (now (s .entry)) ⌝ }
+    ensures { λ r. ⌜ r ≡ offsetNamed (now (s .entry)) ⌝ }
 {
     if byte(s, 0) == 36 {
         return bare(part(s, 1, s.len()));

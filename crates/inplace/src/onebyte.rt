@@ -21,7 +21,7 @@ use asbytes::bytes::kept_at;
 use asbytes::bytes::length_at;
 use asbytes::bytes::put_eight;
 use asbytes::bytes::slot_at;
-use benchfile::word::two;
+use fields::word::two;
 use bus::access::Access;
 use bus::route::Route;
 use bus::route::place_of;

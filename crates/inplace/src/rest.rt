@@ -16,7 +16,7 @@ use asbytes::bytes::put_eight;
 use asbytes::bytes::slot_at;
 use bench::ring::more_kept;
 use bench::ring::slot_after;
-use benchfile::word::byte;
+use fields::word::byte;
 use common::less::less_one;
 use entry::put_slot;
 use fields::four_bytes;

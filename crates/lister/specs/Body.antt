@@ -4,16 +4,16 @@ use mathlib.Core.List.{List, [], _∷_, _++_}
 use lib.ListN.{length}
 use Rattle.fields.specs.Bytes.{partOf}
 use Rattle.append.specs.Number.{hexes}
-use Rattle.append.specs.Texts.{each}
+use Rattle.append.specs.Texts.{codes, each}
 
 -- ` $5A` for each byte
 abbrev pub bytesText : List ℕ → List ℕ
-bytesText = hexes (32 ∷ 36 ∷ [])
+bytesText = hexes (codes " $")
 
 -- the word, the bytes, a line feed; no bytes, no line
 unfoldable pub lineText : List ℕ → List ℕ → List ℕ
 lineText w [] = []
-lineText w (x ∷ l) = w ++ (bytesText (x ∷ l) ++ (10 ∷ []))
+lineText w (x ∷ l) = w ++ (bytesText (x ∷ l) ++ codes "\n")
 
 -- n lines from line k on
 abbrev pub linesFrom : List ℕ → List ℕ → ℕ → ℕ → List ℕ
@@ -22,11 +22,3 @@ linesFrom w l = each (λ (k : ℕ). lineText w (partOf l (k * 16) 16))
 -- all bytes of a section
 unfoldable pub linesText : List ℕ → List ℕ → List ℕ
 linesText w l = linesFrom w l (length l / 16 + 1) 0
-
--- `fill`
-abbrev pub fillWord : List ℕ
-fillWord = 102 ∷ 105 ∷ 108 ∷ 108 ∷ []
-
--- `rom`
-abbrev pub romWord : List ℕ
-romWord = 114 ∷ 111 ∷ 109 ∷ []

@@ -6,90 +6,55 @@ use Rattle.common.specs.Pick.{pick}
 use Rattle.common.specs.Table.{Entry, find, at}
 use Rattle.fields.specs.Bytes.{byteAt}
 use Rattle.append.specs.Number.{hexByte, decimal}
+use Rattle.append.specs.Texts.{codes}
 use Rattle.fields.specs.Little.{field}
 
 -- `read $00:4302`
 abbrev pub readText : ℕ → ℕ → ℕ → List ℕ
 readText bank low high =
-    114 ∷ 101 ∷ 97 ∷ 100 ∷ 32 ∷ 36 ∷ hexByte bank ++ 58 ∷ hexByte high ++ hexByte low ++ 10 ∷ []
+    codes "read $" ++ hexByte bank ++ codes ":" ++ hexByte high ++ hexByte low ++ codes "\n"
 
 -- `write $00:4302 = $10`
 abbrev pub writeText : ℕ → ℕ → ℕ → ℕ → List ℕ
 writeText bank low high byte =
-    119 ∷ 114 ∷ 105 ∷ 116 ∷ 101 ∷ 32 ∷ 36 ∷ hexByte bank ++ 58 ∷ hexByte high ++ hexByte low ++ 32 ∷ 61 ∷ 32 ∷ 36 ∷ hexByte byte ++ 10 ∷ []
+    codes "write $" ++ hexByte bank ++ codes ":" ++ hexByte high ++ hexByte low ++ codes " = $" ++ hexByte byte ++ codes "\n"
 
 -- `answer $2134 = $5A`
 abbrev pub answerText : ℕ → ℕ → ℕ → List ℕ
 answerText low high byte =
-    97 ∷ 110 ∷ 115 ∷ 119 ∷ 101 ∷ 114 ∷ 32 ∷ 36 ∷ hexByte high ++ hexByte low ++ 32 ∷ 61 ∷ 32 ∷ 36 ∷ hexByte byte ++ 10 ∷ []
+    codes "answer $" ++ hexByte high ++ hexByte low ++ codes " = $" ++ hexByte byte ++ codes "\n"
 
 -- ` $8000`, the end of a pad's line
 abbrev pub wordText : ℕ → ℕ → List ℕ
-wordText low high = 32 ∷ 36 ∷ hexByte high ++ hexByte low ++ 10 ∷ []
-
--- `cycles `
-abbrev pub cyclesWord : List ℕ
-cyclesWord = 99 ∷ 121 ∷ 99 ∷ 108 ∷ 101 ∷ 115 ∷ 32 ∷ []
-
--- ` event `
-abbrev pub eventWord : List ℕ
-eventWord = 32 ∷ 101 ∷ 118 ∷ 101 ∷ 110 ∷ 116 ∷ 32 ∷ []
-
--- ` line`
-abbrev pub lineWord : List ℕ
-lineWord = 32 ∷ 108 ∷ 105 ∷ 110 ∷ 101 ∷ []
-
--- ` timer`
-abbrev pub timerWord : List ℕ
-timerWord = 32 ∷ 116 ∷ 105 ∷ 109 ∷ 101 ∷ 114 ∷ []
-
--- `pad `
-abbrev pub padWord : List ℕ
-padWord = 112 ∷ 97 ∷ 100 ∷ 32 ∷ []
-
--- `plug `
-abbrev pub plugWord : List ℕ
-plugWord = 112 ∷ 108 ∷ 117 ∷ 103 ∷ 32 ∷ []
-
--- ` on`
-abbrev pub onWord : List ℕ
-onWord = 32 ∷ 111 ∷ 110 ∷ 10 ∷ []
-
--- ` off`
-abbrev pub offWord : List ℕ
-offWord = 32 ∷ 111 ∷ 102 ∷ 102 ∷ 10 ∷ []
-
--- `back `
-abbrev pub backWord : List ℕ
-backWord = 98 ∷ 97 ∷ 99 ∷ 107 ∷ 32 ∷ []
+wordText low high = codes " $" ++ hexByte high ++ hexByte low ++ codes "\n"
 
 -- the options of a cycles row: an event that is not 0 ..
 unfoldable pub eventText : ℕ → List ℕ
-eventText e = pick (eqb e 0) [] (eventWord ++ decimal e)
+eventText e = pick (eqb e 0) [] (codes " event " ++ decimal e)
 
 -- .. line due, timer
 unfoldable pub flagsText : ℕ → List ℕ
-flagsText f = find (at 1 lineWord ∷ at 2 timerWord ∷ at 3 (lineWord ++ timerWord) ∷ []) f []
+flagsText f = find (at 1 (codes " line") ∷ at 2 (codes " timer") ∷ at 3 (codes " line timer") ∷ []) f []
 
 -- `cycles 40 event 1 line timer`
 unfoldable pub cyclesText : ℕ → ℕ → ℕ → List ℕ
-cyclesText n e f = cyclesWord ++ (decimal n ++ (eventText e ++ (flagsText f ++ (10 ∷ []))))
+cyclesText n e f = codes "cycles " ++ (decimal n ++ (eventText e ++ (flagsText f ++ codes "\n")))
 
 -- `pad 0 $8000`
 unfoldable pub padText : ℕ → ℕ → ℕ → List ℕ
-padText port l h = padWord ++ (decimal port ++ wordText l h)
+padText port l h = codes "pad " ++ (decimal port ++ wordText l h)
 
 -- `plug 1 off`
 unfoldable pub plugText : ℕ → ℕ → List ℕ
-plugText port on = plugWord ++ (decimal port ++ pick (eqb on 1) onWord offWord)
+plugText port on = codes "plug " ++ (decimal port ++ pick (eqb on 1) (codes " on\n") (codes " off\n"))
 
 -- a line of a word and a number
 abbrev pub numberText : List ℕ → ℕ → List ℕ
-numberText w n = w ++ (decimal n ++ (10 ∷ []))
+numberText w n = w ++ (decimal n ++ codes "\n")
 
 -- `back 41`
 unfoldable pub backText : ℕ → List ℕ
-backText n = numberText backWord n
+backText n = numberText (codes "back ") n
 
 -- the line of a row, by its kind
 abbrev pub texts : List ℕ → List (Entry (List ℕ))

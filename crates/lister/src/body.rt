@@ -6,7 +6,7 @@ ghost use Rattle.lister.specs.Body.{lineText, linesText};
 use append::number::hexes;
 use append::push_byte;
 use append::put;
-use benchfile::part::part;
+use fields::part::part;
 
 // `fill $5A $00`; no bytes, no line.
 fn line(out: &mut [u8], at: usize, word: &[u8], s: &[u8]) -> usize

@@ -6,9 +6,9 @@ ghost use Rattle.lister.specs.List.{scriptText, listText};
 use crate::body::lines;
 use crate::row::number_line;
 use crate::row::write_row;
-use benchfile::part::part;
 use benchfile::section::section_look;
-use benchfile::word::two;
+use fields::part::part;
+use fields::word::two;
 
 // The rows of a script, a line each.
 fn rows(out: &mut [u8], at: usize, s: &[u8]) -> usize

@@ -7,8 +7,8 @@ use append::number::decimal;
 use append::number::glyph;
 use append::push_byte;
 use append::put;
-use benchfile::word::byte;
-use benchfile::word::two;
+use fields::word::byte;
+use fields::word::two;
 
 // `read $00:4302`
 fn read_text(bank: u8, low: u8, high: u8) -> [u8; 14]

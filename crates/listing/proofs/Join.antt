@@ -1,11 +1,12 @@
 -- The parts of each line, put one after the other, make the line.
 use Prim.Native.Nat.{ℕ, _/_, _%_}
 use mathlib.Core.Bool.{Bool, true, false}
-use mathlib.Core.List.{List, [], _∷_, _++_}
+use mathlib.Core.List.{List, _++_}
 use mathlib.Core.Path.{_≡_, sym, _∙_}
 use lib.Dec.{eqb, ltb}
 use Rattle.append.specs.Number.{decimal, padded}
 use Rattle.append.specs.Sheet.{Sheet, puts}
+use Rattle.append.specs.Texts.{codes}
 use Rattle.append.proofs.Laws.{then, puts-none}
 use Rattle.bus.specs.declared.access.Access.{Access}
 use Rattle.bus.specs.declared.access.Log.{Log}
@@ -15,8 +16,8 @@ use Rattle.touch.specs.declared.reach.Reach.{Reach}
 use Rattle.touch.specs.declared.who.Who.{Who}
 use Rattle.wording.specs.Words.{wordsOf}
 use Rattle.listing.specs.Line.{headText, whoText, verbText, addressText, spotText, ownText, zeroText, shows, accessText}
-use Rattle.listing.specs.Cycle.{edgeWords, logText, edgeText, cycleText}
-use Rattle.listing.specs.Event.{heldWord, ofWord, cyclesWord, beforeWords, afterWords, ofRowWords, backWord, stepsWords, refusalWord, heldText, originText, backText, refusedText, endText}
+use Rattle.listing.specs.Cycle.{logText, edgeText, cycleText}
+use Rattle.listing.specs.Event.{heldText, originText, backText, refusedText, endText}
 use Rattle.listing.specs.declared.line.Line.{Line}
 
 -- texts one after the other
@@ -36,10 +37,10 @@ eight s a b c d e f g h p q r l m n j k =
     then s a (b ++ (c ++ (d ++ (e ++ (f ++ (g ++ h)))))) p
     (then _ b (c ++ (d ++ (e ++ (f ++ (g ++ h))))) q (six _ c d e f g h r l m n j k))
 
-pub head-joined : (s : Sheet) {t u v w : Sheet} (row clock : ℕ) → t ≡ puts s (padded 5 row) → u ≡ puts t (32 ∷ []) → v ≡ puts u (padded 10 clock)
-    → w ≡ puts v (32 ∷ 32 ∷ []) → w ≡ puts s (headText row clock)
+pub head-joined : (s : Sheet) {t u v w : Sheet} (row clock : ℕ) → t ≡ puts s (padded 5 row) → u ≡ puts t (codes " ") → v ≡ puts u (padded 10 clock)
+    → w ≡ puts v (codes "  ") → w ≡ puts s (headText row clock)
 unfolding headText
-head-joined s row clock = four s (padded 5 row) (32 ∷ []) (padded 10 clock) (32 ∷ 32 ∷ [])
+head-joined s row clock = four s (padded 5 row) (codes " ") (padded 10 clock) (codes "  ")
 
 -- the line of an access
 module _ (s : Sheet) (l : Line) (a : Access) (r : Reach) (zero : Bool) where
@@ -50,11 +51,11 @@ module _ (s : Sheet) (l : Line) (a : Access) (r : Reach) (zero : Bool) where
   pub access-joined : {t u v w x y z i : Sheet} {who verb address : List ℕ} → shows (l .only) (r .spot) ≡ true
       → who ≡ whoText (l .who) → verb ≡ verbText (a .write) → address ≡ addressText a
       → t ≡ puts s (headText (l .row) (l .clock)) → u ≡ puts t who → v ≡ puts u verb → w ≡ puts v address
-      → x ≡ puts w (spotText (r .spot)) → y ≡ puts x (ownText (r .own)) → z ≡ puts y (zeroText zero) → i ≡ puts z (10 ∷ [])
+      → x ≡ puts w (spotText (r .spot)) → y ≡ puts x (ownText (r .own)) → z ≡ puts y (zeroText zero) → i ≡ puts z (codes "\n")
       → i ≡ puts s (accessText l a r zero)
   unfolding accessText
   access-joined {who = who} {verb = verb} {address = address} h e f g p q j k m n o b =
-      eight s (headText (l .row) (l .clock)) who verb address (spotText (r .spot)) (ownText (r .own)) (zeroText zero) (10 ∷ []) p q j k m n o b
+      eight s (headText (l .row) (l .clock)) who verb address (spotText (r .spot)) (ownText (r .own)) (zeroText zero) (codes "\n") p q j k m n o b
       ∙ simp (h, e, f, g)
 
 -- an NMI edge
@@ -68,9 +69,9 @@ module _ (s : Sheet) (row clock only : ℕ) (edge : Bool) where
   edge-left h g = rw (h, g) (sym (puts-none s))
 
   pub edge-joined : {t u : Sheet} → edge ≡ true → eqb only 131072 ≡ true → t ≡ puts s (headText row clock)
-      → u ≡ puts t edgeWords → u ≡ puts s (edgeText row clock only edge)
+      → u ≡ puts t (codes "NMI     edge\n") → u ≡ puts s (edgeText row clock only edge)
   unfolding edgeText
-  edge-joined h g p q = rw (h, g) (then s (headText row clock) edgeWords p q)
+  edge-joined h g p q = rw (h, g) (then s (headText row clock) (codes "NMI     edge\n") p q)
 
 -- a cycle
 pub cycle-joined : (s : Sheet) {t u : Sheet} (row only : ℕ) (m : Machine) (log : Log) (edge : Bool) {who : Who} {zero : Bool}
@@ -90,26 +91,26 @@ module _ (s : Sheet) (row clock only held count : ℕ) where
   held-none h = rw h (sym (puts-none s))
 
   pub held-joined : {t u v w x y : Sheet} → eqb only 131072 ≡ true → t ≡ puts s (headText row clock)
-      → u ≡ puts t heldWord → v ≡ puts u (decimal held)
-      → w ≡ puts v ofWord → x ≡ puts w (decimal count) → y ≡ puts x cyclesWord
+      → u ≡ puts t (codes "CPU     held ") → v ≡ puts u (decimal held)
+      → w ≡ puts v (codes " of ") → x ≡ puts w (decimal count) → y ≡ puts x (codes " cycles\n")
       → y ≡ puts s (heldText row clock only held count)
   unfolding heldText
   held-joined h p q r z m n =
       rw h
-      (six s (headText row clock) heldWord (decimal held) ofWord (decimal count) cyclesWord p q r z m n)
+      (six s (headText row clock) (codes "CPU     held ") (decimal held) (codes " of ") (decimal count) (codes " cycles\n") p q r z m n)
 
 -- where back steps lead to
 module _ (s : Sheet) (v : ℕ) where
-  pub origin-first : {t u : Sheet} → eqb (v % 65536) 0 ≡ true → t ≡ puts s beforeWords → u ≡ puts t (decimal (v / 65536))
+  pub origin-first : {t u : Sheet} → eqb (v % 65536) 0 ≡ true → t ≡ puts s (codes "before row ") → u ≡ puts t (decimal (v / 65536))
       → u ≡ puts s (originText v)
   unfolding originText
-  origin-first h p q = rw h (then s beforeWords (decimal (v / 65536)) p q)
+  origin-first h p q = rw h (then s (codes "before row ") (decimal (v / 65536)) p q)
 
-  pub origin-later : {t u w x : Sheet} → eqb (v % 65536) 0 ≡ false → t ≡ puts s afterWords
-      → u ≡ puts t (decimal (v % 65536)) → w ≡ puts u ofRowWords → x ≡ puts w (decimal (v / 65536))
+  pub origin-later : {t u w x : Sheet} → eqb (v % 65536) 0 ≡ false → t ≡ puts s (codes "after cycle ")
+      → u ≡ puts t (decimal (v % 65536)) → w ≡ puts u (codes " of row ") → x ≡ puts w (decimal (v / 65536))
       → x ≡ puts s (originText v)
   unfolding originText
-  origin-later h p q r z = rw h (four s afterWords (decimal (v % 65536)) ofRowWords (decimal (v / 65536)) p q r z)
+  origin-later h p q r z = rw h (four s (codes "after cycle ") (decimal (v % 65536)) (codes " of row ") (decimal (v / 65536)) p q r z)
 
 -- steps taken back
 module _ (s : Sheet) (row clock steps count origin : ℕ) where
@@ -118,13 +119,13 @@ module _ (s : Sheet) (row clock steps count origin : ℕ) where
   back-none h = rw h (sym (puts-none s))
 
   pub back-joined : {t u v w x y z i : Sheet} → eqb steps 0 ≡ false → t ≡ puts s (headText row clock)
-      → u ≡ puts t backWord → v ≡ puts u (decimal steps) → w ≡ puts v ofWord
-      → x ≡ puts w (decimal count) → y ≡ puts x stepsWords → z ≡ puts y (originText origin) → i ≡ puts z (10 ∷ [])
+      → u ≡ puts t (codes "back    ") → v ≡ puts u (decimal steps) → w ≡ puts v (codes " of ")
+      → x ≡ puts w (decimal count) → y ≡ puts x (codes " steps, to ") → z ≡ puts y (originText origin) → i ≡ puts z (codes "\n")
       → i ≡ puts s (backText row clock steps count origin)
   unfolding backText
   back-joined h p q r z m n j k =
       rw h
-      (eight s (headText row clock) backWord (decimal steps) ofWord (decimal count) stepsWords (originText origin) (10 ∷ []) p q r z m n j k)
+      (eight s (headText row clock) (codes "back    ") (decimal steps) (codes " of ") (decimal count) (codes " steps, to ") (originText origin) (codes "\n") p q r z m n j k)
 
 -- a refusal
 module _ (s : Sheet) (row clock number : ℕ) where
@@ -133,10 +134,10 @@ module _ (s : Sheet) (row clock number : ℕ) where
   refused-none h = rw h (sym (puts-none s))
 
   pub refused-joined : {t u v w x y : Sheet} → eqb number 0 ≡ false → t ≡ puts s (headText row clock)
-      → u ≡ puts t refusalWord → v ≡ puts u (decimal number) → w ≡ puts v (58 ∷ 32 ∷ [])
-      → x ≡ puts w (wordsOf number) → y ≡ puts x (10 ∷ []) → y ≡ puts s (refusedText row clock number)
+      → u ≡ puts t (codes "refusal ") → v ≡ puts u (decimal number) → w ≡ puts v (codes ": ")
+      → x ≡ puts w (wordsOf number) → y ≡ puts x (codes "\n") → y ≡ puts s (refusedText row clock number)
   unfolding refusedText
-  refused-joined h p q r z m n = rw h (six s (headText row clock) refusalWord (decimal number) (58 ∷ 32 ∷ []) (wordsOf number) (10 ∷ []) p q r z m n)
+  refused-joined h p q r z m n = rw h (six s (headText row clock) (codes "refusal ") (decimal number) (codes ": ") (wordsOf number) (codes "\n") p q r z m n)
 
 -- the end of a row of cycles
 module _ (s : Sheet) (row clock only number held done count : ℕ) where

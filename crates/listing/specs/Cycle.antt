@@ -5,6 +5,7 @@ use mathlib.Core.List.{List, [], _∷_, _++_}
 use lib.Dec.{eqb}
 use lib.ListN.{getD}
 use Rattle.common.specs.Pick.{pick}
+use Rattle.append.specs.Texts.{codes}
 use Rattle.bus.specs.Access.{noAccess}
 use Rattle.bus.specs.declared.access.Access.{Access}
 use Rattle.bus.specs.declared.access.Log.{Log}
@@ -27,13 +28,9 @@ accessesFrom l w mark items (suc n) i =
 unfoldable pub logText : Line → WmAddress → Bool → Log → List ℕ
 logText l w mark log = accessesFrom l w mark (log .items) (min (log .count) 11) 0
 
--- `NMI     edge`
-abbrev pub edgeWords : List ℕ
-edgeWords = 78 ∷ 77 ∷ 73 ∷ 32 ∷ 32 ∷ 32 ∷ 32 ∷ 32 ∷ 101 ∷ 100 ∷ 103 ∷ 101 ∷ 10 ∷ []
-
 -- the edge, where every byte is looked at
 unfoldable pub edgeText : ℕ → ℕ → ℕ → Bool → List ℕ
-edgeText row clock only edge = pick edge (pick (eqb only 131072) (headText row clock ++ edgeWords) []) []
+edgeText row clock only edge = pick edge (pick (eqb only 131072) (headText row clock ++ codes "NMI     edge\n") []) []
 
 -- what a cycle of a machine did, by its log and its NMI edge
 unfoldable pub cycleText : ℕ → ℕ → Machine → Log → Bool → List ℕ

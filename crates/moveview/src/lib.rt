@@ -1,11 +1,11 @@
 // The program moves: reads a bench file and perhaps a place, runs the file, and writes a line for each access as it goes. What is wrong
 // goes to standard error in one line.
-use benchfile::part::part;
 use benchfile::section::section_look;
 use complaint::argument;
 use complaint::no_place;
 use complaint::refused;
 use dump::place::place;
+use fields::part::part;
 use input::read_all;
 use libc::STDERR_FILENO;
 use libc::STDIN_FILENO;

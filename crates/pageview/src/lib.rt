@@ -3,12 +3,12 @@
 pub mod run;
 
 use bench::page::page_look;
-use benchfile::part::part;
 use complaint::argument;
 use complaint::no_place;
 use complaint::refused;
 use dump::page::dump_page;
 use dump::place::place;
+use fields::part::part;
 use input::read_all;
 use libc::STDERR_FILENO;
 use libc::STDIN_FILENO;

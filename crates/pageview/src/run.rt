@@ -4,9 +4,9 @@ ghost use denote.Ref.{now};
 ghost use Rattle.bench.specs.Calls.{desk};
 ghost use Rattle.pageview.specs.Run.{ended, scriptRun};
 use bench::Bench;
-use benchfile::part::part;
 use benchfile::row::row_of;
 use benchfile::section::section_look;
+use fields::part::part;
 use printout::start::begin;
 use script::row::run_row;
 

@@ -6,7 +6,7 @@ ghost use Rattle.append.specs.Sheet.{sheet};
 ghost use Rattle.printout.specs.Row.{shown, rowShown};
 use bench::Bench;
 use benchfile::row::row_of;
-use benchfile::word::byte;
+use fields::word::byte;
 use lines::line::append_line;
 use script::repeat::Ran;
 use script::row::run_row;

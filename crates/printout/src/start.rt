@@ -7,7 +7,7 @@ use bench::Bench;
 use bench::fresh::fresh;
 use benchfile::check::file_check;
 use benchfile::section::section_look;
-use benchfile::word::two;
+use fields::word::two;
 use lines::fill::fill_bank;
 use lines::line::append_line;
 

@@ -8,6 +8,7 @@ use lib.Bits.{bitOr}
 use lib.Dec.{eqb, leb}
 use Rattle.common.specs.Pick.{pick}
 use Rattle.common.specs.Table.{Entry, find, at}
+use Rattle.reader.specs.Letter.{base36}
 use Rattle.reader.specs.declared.draft.Draft.{Draft}
 use Rattle.reader.specs.declared.draft.Opening.{Opening}
 
@@ -20,20 +21,19 @@ draft p s k x₁ x₂ x₃ x₄ e =
 abbrev pub failedOf : Draft → Draft
 failedOf d = draft (d .phase) (d .state) (d .kind) (d .b1) (d .b2) (d .b3) (d .b4) 9
 
--- what a word opens: kind, what is expected first, the phases from which and up to which it may come, the phase that it opens. In
--- base 36: cycles, read, write, pad, plug, answer, back, bitcycles, fill, rom
+-- what a word opens: kind, what is expected first, the phases from which and up to which it may come, the phase that it opens
 abbrev pub openings : List (Entry Opening)
 openings =
-    at 783288676 (1, 1, 2, 4, 4)
-    ∷ at 1278229 (2, 4, 2, 4, 4)
-    ∷ at 55031810 (3, 16, 2, 4, 4)
-    ∷ at 32773 (4, 6, 2, 4, 4)
-    ∷ at 1194712 (5, 17, 2, 4, 4)
-    ∷ at 644641299 (6, 8, 2, 4, 4)
-    ∷ at 526628 (7, 15, 2, 4, 4)
-    ∷ at 32506673912164 (8, 10, 0, 0, 1)
-    ∷ at 723945 (9, 11, 1, 2, 2)
-    ∷ at 35878 (10, 12, 2, 3, 3)
+    at (base36 "cycles") (1, 1, 2, 4, 4)
+    ∷ at (base36 "read") (2, 4, 2, 4, 4)
+    ∷ at (base36 "write") (3, 16, 2, 4, 4)
+    ∷ at (base36 "pad") (4, 6, 2, 4, 4)
+    ∷ at (base36 "plug") (5, 17, 2, 4, 4)
+    ∷ at (base36 "answer") (6, 8, 2, 4, 4)
+    ∷ at (base36 "back") (7, 15, 2, 4, 4)
+    ∷ at (base36 "bitcycles") (8, 10, 0, 0, 1)
+    ∷ at (base36 "fill") (9, 11, 1, 2, 2)
+    ∷ at (base36 "rom") (10, 12, 2, 3, 3)
     ∷ []
 
 -- any other word comes in no phase
@@ -53,8 +53,8 @@ flagged d f = draft (d .phase) (d .state) (d .kind) (d .b1) (d .b2) (d .b3) (bit
 -- event, line, timer
 unfoldable pub optionOf : Draft → ℕ → Draft
 optionOf d v =
-    pick (eqb v 24979961) (draft (d .phase) 3 (d .kind) (d .b1) (d .b2) (d .b3) (d .b4) (d .emit))
-    (pick (eqb v 1003946) (flagged d 1) (pick (eqb v 49577715) (flagged d 2) (failedOf d)))
+    pick (eqb v (base36 "event")) (draft (d .phase) 3 (d .kind) (d .b1) (d .b2) (d .b3) (d .b4) (d .emit))
+    (pick (eqb v (base36 "line")) (flagged d 1) (pick (eqb v (base36 "timer")) (flagged d 2) (failedOf d)))
 
 -- 1 or 0 in b2
 abbrev pub switched : Draft → ℕ → Draft
@@ -62,9 +62,9 @@ switched d x = draft (d .phase) 18 (d .kind) (d .b1) x (d .b3) (d .b4) (d .emit)
 
 -- on, off
 unfoldable pub switchOf : Draft → ℕ → Draft
-switchOf d v = pick (eqb v 887) (switched d 1) (pick (eqb v 31659) (switched d 0) (failedOf d))
+switchOf d v = pick (eqb v (base36 "on")) (switched d 1) (pick (eqb v (base36 "off")) (switched d 0) (failedOf d))
 
 -- file; no ROM line may follow it
 unfoldable pub fileOf : Draft → ℕ → Draft
 fileOf d v =
-    pick (eqb v 723938) (draft 4 14 11 (d .b1) (d .b2) (d .b3) (d .b4) (d .emit)) (failedOf d)
+    pick (eqb v (base36 "file")) (draft 4 14 11 (d .b1) (d .b2) (d .b3) (d .b4) (d .emit)) (failedOf d)

@@ -31,8 +31,8 @@ places =
     ∷ []
 
 -- where no number is expected, the least is over the largest
-abbrev pub placeOf : ℕ → Place
-placeOf s = find places s (1, 0, 18, 0, 0, 0, 0, 0)
+abbrev pub expects : ℕ → Place
+expects s = find places s (1, 0, 18, 0, 0, 0, 0, 0)
 
 -- the bytes of a number, lowest first
 abbrev pub bytes : ℕ → List (Entry ℕ)
@@ -45,7 +45,7 @@ byteOf w x v = find (bytes v) w x
 -- a number where one is expected, in its range
 unfoldable pub numberOf : Draft → ℕ → Draft
 numberOf d v =
-    let p = placeOf (d .state) in
+    let p = expects (d .state) in
     pick (leb (p .0) v && leb v (p .1))
     (draft (d .phase) (p .2) (d .kind) (byteOf (p .3) (d .b1) v) (byteOf (p .4) (d .b2) v) (byteOf (p .5) (d .b3) v) (byteOf (p .6) (d .b4) v) (p .7))
     (failedOf d)

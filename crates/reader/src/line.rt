@@ -1,6 +1,6 @@
 // Words of a line, one after the other, and the line's end.
 ghost use mathlib.Core.Path.{_≡_};
-ghost use Rattle.reader.specs.Line.{placeOf, byteOf, numberOf, namedOf, takenOf, closedOf, endsOf, closingOf, lineOf};
+ghost use Rattle.reader.specs.Line.{expects, byteOf, numberOf, namedOf, takenOf, closedOf, endsOf, closingOf, lineOf};
 use crate::draft::Draft;
 use crate::draft::failed;
 use crate::draft::file;
@@ -14,7 +14,7 @@ struct Place(u64, u64, u8, u8, u8, u8, u8, u8);
 
 // Bytes of a fill or a ROM are complete as they come. Where no number is expected, the least is over the largest.
 fn place_of(state: u8) -> Place
-    ensures { λ r. ⌜ r ≡ placeOf state ⌝ }
+    ensures { λ r. ⌜ r ≡ expects state ⌝ }
 {
     match state {
         1 => Place(1, 65535, 2, 1, 2, 0, 0, 0),

@@ -2,10 +2,10 @@
 use append::number::decimal;
 use append::push_byte;
 use append::put;
-use benchfile::part::part;
-use benchfile::word::four;
 use console::output::write_text;
 use console::output::write_trace;
+use fields::part::part;
+use fields::word::four;
 use input::read_all;
 use libc::STDERR_FILENO;
 use libc::STDIN_FILENO;

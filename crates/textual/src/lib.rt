@@ -5,7 +5,7 @@ pub mod name;
 
 use assembler::assemble::assemble_text;
 use benchfile::check::file_check;
-use benchfile::part::part;
+use fields::part::part;
 use input::read_all;
 use libc::STDERR_FILENO;
 use libc::STDIN_FILENO;

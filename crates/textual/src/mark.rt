@@ -1,4 +1,9 @@
 // Marks in a text: characters that end a line, start a comment or part words; or those that do not.
+ghost use Prim.Native.Nat.{_+_, min};
+ghost use mathlib.Core.Path.{_≡_};
+ghost use denote.Ref.{now};
+ghost use Rattle.common.specs.Pick.{pick};
+ghost use Rattle.textual.specs.Mark.{wantedOf, marked, marksOf};
 use reader::letter::sign;
 
 // The number that the next of them would have, where the first stands, and the place behind the last.
@@ -8,23 +13,47 @@ pub struct Marks {
     pub behind: usize,
 }
 
-fn passed(m: Marks, wanted: bool, here: usize, next: usize) -> Marks {
-    if !wanted {
-        return m;
+// Signs 1 up to `most`: line ends, with comments from 2 on, with spaces from 3 on. Where `inside` is not set, all others.
+fn wanted(c: u8, most: u8, inside: bool) -> bool
+    ensures { λ r. ⌜ r ≡ wantedOf most inside c ⌝ }
+{
+    let k = sign(c);
+    let among = (1 <= k) & (k <= most);
+    if inside {
+        return among;
     }
-    let mut q = m;
-    if m.next == 1 {
-        q.first = here;
-    }
-    if m.next < 4294967296 {
-        q.next = m.next + 1;
-    }
-    q.behind = next;
-    q
+    !among
 }
 
-// Signs 1 up to `most`: line ends, with comments from 2 on, with spaces from 3 on. Where `inside` is not set, all others.
-pub fn marks_in(s: &[u8], most: u8, inside: bool) -> Marks {
+fn counted(n: u64) -> u64
+    ensures { λ r. ⌜ r ≡ min (n + 1) 4294967296 ⌝ }
+{
+    if n < 4294967296 { n + 1 } else { 4294967296 }
+}
+
+fn nearer(a: usize, b: usize) -> usize
+    ensures { λ r. ⌜ r ≡ min a b ⌝ }
+{
+    if a < b { a } else { b }
+}
+
+// Where a wanted one stands here.
+fn passed(m: Marks, wanted: bool, here: usize, next: usize) -> Marks
+    ensures { λ r. ⌜ r ≡ pick wanted (marked m here next) m ⌝ }
+{
+    if wanted {
+        return Marks {
+            next: counted(m.next),
+            first: nearer(m.first, here),
+            behind: next,
+        };
+    }
+    m
+}
+
+pub fn marks_in(s: &[u8], most: u8, inside: bool) -> Marks
+    ensures { λ r. ⌜ r ≡ marksOf most inside (now (s .entry)) ⌝ }
+{
     let mut m = Marks {
         next: 1,
         first: s.len(),
@@ -32,10 +61,10 @@ pub fn marks_in(s: &[u8], most: u8, inside: bool) -> Marks {
     };
     let mut i = 0;
     while i < s.len() {
-        let k = sign(s[i]);
         let here = i;
         i += 1;
-        m = passed(m, ((k != 0) & (k <= most)) == inside, here, i);
+        let one = wanted(s[here], most, inside);
+        m = passed(m, one, here, i);
     }
     m
 }

@@ -2,8 +2,8 @@
 use crate::mark::marks_in;
 use append::number::decimal;
 use append::put;
-use benchfile::part::part;
 use dump::page::signs;
+use fields::part::part;
 use libc::STDERR_FILENO;
 use reader::draft::Draft;
 use reader::reader::read;

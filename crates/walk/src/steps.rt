@@ -8,9 +8,9 @@ use crate::row::walk_cycle;
 use crate::row::walk_row;
 use crate::stand::Walk;
 use append::has_room;
-use benchfile::part::part;
 use benchfile::row::Row;
 use benchfile::row::row_of;
+use fields::part::part;
 
 fn by_row(
     w: Walk,

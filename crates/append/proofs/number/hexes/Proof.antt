@@ -34,7 +34,12 @@ loop-less : tie.Need-loop-less Inv-loop μ-loop
 loop-less c = omega arith
 
 loop-again : tie.Need-loop-again Inv-loop μ-loop
-loop-again c = ((c .before .before .hex-byte .kept .0) ∙ (c .before .before .before .before .before .before .before .put .kept .0) ∙ (c .before .before .before .before .before .before .before .before .before .before .loop .inv .0), (c .before .before .before .before .before .before .before .before .before .before .loop .inv .1) ∙ bytes-next _ _ _ _ (c .before .before .before .before .before .before .before .before .before .loop-test .taken) (then _ _ _ (c .before .before .before .before .before .before .before .put .ensures) (c .before .before .hex-byte .ensures)))
+loop-again c =
+    let at-hex-byte = c .before .before in
+    let at-put = at-hex-byte .before .before .before .before .before in
+    let at-loop-test = at-put .before .before in
+    let at-loop = at-loop-test .before in
+    ((at-hex-byte .hex-byte .kept .0) ∙ (at-put .put .kept .0) ∙ (at-loop .loop .inv .0), (at-loop .loop .inv .1) ∙ bytes-next _ _ _ _ (at-loop-test .loop-test .taken) (then _ _ _ (at-put .put .ensures) (at-hex-byte .hex-byte .ensures)))
 
 same-length : tie.Need-same-length Inv-loop μ-loop
 same-length c = (c .before .loop .inv .0)

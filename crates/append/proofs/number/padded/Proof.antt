@@ -22,7 +22,13 @@ same-length : tie.Need-same-length
 same-length c = search needs
 
 returns : tie.Need-returns
-returns c = put-padded _ _ _ _ _ (c .before .before .before .before .before .before .before .before .before .before .before .before .fits .n .fits) (c .before .before .before .before .before .before .before .before .before .decimal .ensures .1 .0) (c .before .before .before .before .before .before .before .before .before .decimal .ensures .1 .1) (c .before .before .before .before .before .before .before .before .before .decimal .ensures .0 .0) (c .before .before .before .before .before .before .before .spaces .ensures) (c .before .before .put .ensures)
+returns c =
+    let at-put = c .before .before in
+    let at-spaces = at-put .before .before .before .before .before in
+    let at-decimal = at-spaces .before .before in
+    let at-fits = at-decimal .before .before .before in
+    put-padded _ _ _ _ _ (at-fits .fits .n .fits) (at-decimal .decimal .ensures .1 .0) (at-decimal .decimal .ensures .1 .1)
+    (at-decimal .decimal .ensures .0 .0) (at-spaces .spaces .ensures) (at-put .put .ensures)
 
 pub padded-spec : {M : Type 1} → statement M
 padded-spec =

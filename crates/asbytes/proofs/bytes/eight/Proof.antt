@@ -1,6 +1,6 @@
 use mathlib.Core.Path.{sym}
 use Rattle.asbytes.proofs.Join.{eight-halves}
-use Rattle.benchfile.proofs.Parts.{field-none}
+use Rattle.fields.proofs.Parts.{field-none}
 use borrow.Author.Needs.{needs}
 use Rattle.asbytes.proofs.bytes.eight.Statement.{statement}
 use Rattle.asbytes.proofs.bytes.eight.Tie as tie

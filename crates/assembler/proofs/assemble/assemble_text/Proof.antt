@@ -43,7 +43,12 @@ same-length : tie.Need-same-length
 same-length c = search needs
 
 returns : tie.Need-returns
-returns c = assembled-ready _ _ _ _ (said-by _ _ (c .before .before .before .before .before .before .before .before .before .before .before .before .before .before .before .before .gather .ensures)) (c .before .before .before .before .before .before .before .before .before .before .before .ready .ensures) (c .before .before .before .before .before .before .before .before .before .before .if1 .taken) (c .before .before .before .before .before .before .before .before .part .ensures) (c .before .before .before .before .before .before .part2 .ensures) (c .before .before .before .before .part3 .ensures) (c .before .before .finish .ensures)
+returns c =
+    let at-part2 = c .before .before .before .before .before .before in
+    let at-ready = at-part2 .before .before .before .before .before in
+    let at-gather = at-ready .before .before .before .before .before in
+    assembled-ready _ _ _ _ (said-by _ _ (at-gather .gather .ensures)) (at-ready .ready .ensures) (at-part2 .before .before .before .before .if1 .taken)
+    (at-part2 .before .before .part .ensures) (at-part2 .part2 .ensures) (c .before .before .before .before .part3 .ensures) (c .before .before .finish .ensures)
 
 returns-2 : tie.Need-returns-2
 returns-2 c = assembled-not _ _ _ _ (said-by _ _ (c .before .before .before .before .before .before .gather .ensures)) (c .before .ready .ensures) (c .if1 .left)

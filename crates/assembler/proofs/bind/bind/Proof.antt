@@ -28,7 +28,11 @@ same-length : tie.Need-same-length
 same-length c = search needs
 
 returns : tie.Need-returns
-returns c = bound-by _ _ _ _ (c .before .before .before .before .before .before .before .before .before .before .before .before .before .before .before .before .before .before .fill-size .ensures) (c .before .before .before .before .before .before .before .before .before .before .before .before .before .before .before .before .before .size .ensures) (c .before .before .before .before .before .before .before .before .before .before .before .before .before .before .before .before .size2 .ensures) (c .before .before .before .before .before .before .before .before .before .before .before .before .before .before .contents .ensures) (c .before .before .before .before .before .before .before .before .before .before .put .ensures) (c .before .before .before .before .before .before .put2 .ensures) (c .before .before .put3 .ensures)
+returns c =
+    let at-put2 = c .before .before .before .before .before .before in
+    let at-contents = at-put2 .before .before .before .before .before .before .before .before in
+    bound-by _ _ _ _ (at-contents .before .before .before .before .fill-size .ensures) (at-contents .before .before .before .size .ensures) (at-contents .before .before .size2 .ensures)
+    (at-contents .contents .ensures) (at-put2 .before .before .before .before .put .ensures) (at-put2 .put2 .ensures) (c .before .before .put3 .ensures)
 
 pub bind-spec : {M : Type 1} → statement M
 bind-spec =

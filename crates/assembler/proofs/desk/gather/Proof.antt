@@ -22,7 +22,10 @@ same-length-3 : tie.Need-same-length-3
 same-length-3 c = search needs
 
 returns : tie.Need-returns
-returns c = gathered-by _ _ _ _ _ (c .before .before .before .before .before .before .before .before .before .before .before .before .before .before .before .before .before .before .before .before .start .ensures) (c .before .before .before .before .before .before .before .before .before .before .before .before .before .before .before .before .run .ensures) (c .before .before .before .before .before .before .step .ensures)
+returns c =
+    let at-step = c .before .before .before .before .before .before in
+    let at-run = at-step .before .before .before .before .before .before .before .before .before .before in
+    gathered-by _ _ _ _ _ (at-run .before .before .before .before .start .ensures) (at-run .run .ensures) (at-step .step .ensures)
 
 pub gather-spec : {M : Type 1} → statement M
 gather-spec =

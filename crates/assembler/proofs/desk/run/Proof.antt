@@ -32,7 +32,10 @@ loop-less c = omega (arith, (c .before .before .before .before .before .before .
 
 loop-again : tie.Need-loop-again Inv-loop μ-loop
 unfolding runs
-loop-again c = ((c .before .before .before .before .before .before .step .kept .1 .0) ∙ (c .before .before .before .before .before .before .before .before .before .before .before .before .loop .inv .0), (c .before .before .before .before .before .before .step .kept .1 .1 .0) ∙ (c .before .before .before .before .before .before .before .before .before .before .before .before .loop .inv .1), (c .before .before .before .before .before .before .step .kept .1 .1 .1 .0) ∙ (c .before .before .before .before .before .before .before .before .before .before .before .before .loop .inv .2), (c .before .before .before .before .before .before .before .before .before .before .before .before .loop .inv .3) ∙ fold-next (stepped _) _ _ 0 (c .before .before .before .before .before .before .before .before .before .before .before .loop-test .taken) (c .before .before .before .before .before .before .step .ensures))
+loop-again c =
+    let at-step = c .before .before .before .before .before .before in
+    let at-loop-test = at-step .before .before .before .before .before in
+    ((at-step .step .kept .1 .0) ∙ (at-loop-test .before .loop .inv .0), (at-step .step .kept .1 .1 .0) ∙ (at-loop-test .before .loop .inv .1), (at-step .step .kept .1 .1 .1 .0) ∙ (at-loop-test .before .loop .inv .2), (at-loop-test .before .loop .inv .3) ∙ fold-next (stepped _) _ _ 0 (at-loop-test .loop-test .taken) (at-step .step .ensures))
 
 same-length : tie.Need-same-length Inv-loop μ-loop
 same-length c = (c .before .loop .inv .0)

@@ -53,10 +53,32 @@ put-requires-4 : tie.Need-put-requires-4
 put-requires-4 c κs = search needs
 
 same-length : tie.Need-same-length
-same-length c = (c .before .before .put4 .kept .0) ∙ (c .before .before .before .before .before .before .before .signs .kept .0) ∙ (c .before .before .before .before .before .before .before .before .before .before .before .put3 .kept .0) ∙ (c .before .before .before .before .before .before .before .before .before .before .before .before .before .before .before .before .hexes2 .kept .0) ∙ (c .before .before .before .before .before .before .before .before .before .before .before .before .before .before .before .before .before .before .before .before .before .before .put2 .kept .0) ∙ (c .before .before .before .before .before .before .before .before .before .before .before .before .before .before .before .before .before .before .before .before .before .before .before .before .before .before .before .hexes .kept .0) ∙ (c .before .before .before .before .before .before .before .before .before .before .before .before .before .before .before .before .before .before .before .before .before .before .before .before .before .before .before .before .before .before .before .before .before .put .kept .0)
+same-length c =
+    let at-signs = c .before .before .before .before .before .before .before in
+    let at-hexes2 = at-signs .before .before .before .before .before .before .before .before .before in
+    let at-put2 = at-hexes2 .before .before .before .before .before .before in
+    let at-hexes = at-put2 .before .before .before .before .before in
+    let at-put = at-hexes .before .before .before .before .before .before in
+    (c .before .before .put4 .kept .0)
+    ∙ (at-signs .signs .kept .0)
+    ∙ (at-signs .before .before .before .before .put3 .kept .0)
+    ∙ (at-hexes2 .hexes2 .kept .0)
+    ∙ (at-put2 .put2 .kept .0)
+    ∙ (at-hexes .hexes .kept .0)
+    ∙ (at-put .put .kept .0)
 
 returns : tie.Need-returns
-returns c = lined _ (c .before .before .before .before .before .before .before .before .before .before .before .before .before .before .before .before .before .before .before .before .before .before .before .before .before .before .before .before .before .before .before .before .before .before .before .before .before .before .before .args .page) (c .before .before .before .before .before .before .before .before .before .before .before .before .before .before .before .before .before .before .before .before .before .before .before .before .before .before .before .before .before .before .before .before .before .before .before .before .before .before .before .args .k) (c .before .before .before .before .before .before .before .before .before .before .before .before .before .before .before .before .before .before .before .before .before .before .before .before .before .before .before .before .before .before .before .before .before .before .before .before .before .before .before .args .s .now) (c .before .before .before .before .before .before .before .before .before .before .before .before .before .before .before .before .before .before .before .before .before .before .before .before .before .before .before .before .before .before .before .before .before .before .before .before .head-text .ensures) (c .before .before .before .before .before .before .before .before .before .before .before .before .before .before .before .before .before .before .before .before .before .before .before .before .before .before .before .before .part .ensures) (c .before .before .before .before .before .before .before .before .before .before .before .before .before .before .before .before .before .part2 .ensures) (c .before .before .before .before .before .before .before .before .before .before .before .before .before .before .before .before .before .before .before .before .before .before .before .before .before .before .before .before .before .before .before .before .before .put .ensures) (c .before .before .before .before .before .before .before .before .before .before .before .before .before .before .before .before .before .before .before .before .before .before .before .before .before .before .before .hexes .ensures) (c .before .before .before .before .before .before .before .before .before .before .before .before .before .before .before .before .before .before .before .before .before .before .put2 .ensures) (c .before .before .before .before .before .before .before .before .before .before .before .before .before .before .before .before .hexes2 .ensures) (c .before .before .before .before .before .before .before .before .before .before .before .put3 .ensures) (c .before .before .before .before .before .before .before .signs .ensures) (c .before .before .put4 .ensures)
+returns c =
+    let at-signs = c .before .before .before .before .before .before .before in
+    let at-hexes2 = at-signs .before .before .before .before .before .before .before .before .before in
+    let at-put2 = at-hexes2 .before .before .before .before .before .before in
+    let at-hexes = at-put2 .before .before .before .before .before in
+    let at-put = at-hexes .before .before .before .before .before .before in
+    let at-start = at-put .before .before .before .before .before .before in
+    lined _ (at-start .args .page) (at-start .args .k) (at-start .args .s .now) (at-put .before .before .before .head-text .ensures)
+    (at-hexes .before .part .ensures) (at-hexes2 .before .part2 .ensures) (at-put .put .ensures) (at-hexes .hexes .ensures)
+    (at-put2 .put2 .ensures) (at-hexes2 .hexes2 .ensures) (at-signs .before .before .before .before .put3 .ensures) (at-signs .signs .ensures)
+    (c .before .before .put4 .ensures)
 
 pub line-spec : {M : Type 1} → statement M
 line-spec =

@@ -34,7 +34,9 @@ loop-less : tie.Need-loop-less Inv-loop μ-loop
 loop-less c = omega arith
 
 loop-again : tie.Need-loop-again Inv-loop μ-loop
-loop-again c = ((c .before .before .push-byte .kept .0) ∙ (c .before .before .before .before .before .before .before .loop .inv .0), (c .before .before .before .before .before .before .before .loop .inv .1) ∙ bytes-next _ _ _ _ (c .before .before .before .before .before .before .loop-test .taken) (last _ _ ((c .before .before .push-byte .ensures) ∙ ap (push _) (c .before .before .before .before .ascii .ensures))))
+loop-again c =
+    let at-loop-test = c .before .before .before .before .before .before in
+    ((c .before .before .push-byte .kept .0) ∙ (at-loop-test .before .loop .inv .0), (at-loop-test .before .loop .inv .1) ∙ bytes-next _ _ _ _ (at-loop-test .loop-test .taken) (last _ _ ((c .before .before .push-byte .ensures) ∙ ap (push _) (c .before .before .before .before .ascii .ensures))))
 
 same-length : tie.Need-same-length Inv-loop μ-loop
 same-length c = (c .before .loop .inv .0)

@@ -1,5 +1,5 @@
 use borrow.Author.Tests.{eq-eqb, ne-eqb}
-use Rattle.dump.specs.Place.{placeOf}
+use Rattle.dump.specs.Place.{offsetNamed}
 use borrow.Author.Needs.{needs}
 use Rattle.dump.proofs.place.place.Statement.{statement}
 use Rattle.dump.proofs.place.place.Tie as tie
@@ -14,14 +14,14 @@ bare-requires : tie.Need-bare-requires
 bare-requires c κs = search needs
 
 returns : tie.Need-returns
-unfolding placeOf
+unfolding offsetNamed
 returns c = simp (rw (c .before .before .before .byte .ensures) at (eq-eqb _ _ (c .before .before .if1 .taken)), (c .bare .ensures), (c .before .part .ensures))
 
 bare-requires-2 : tie.Need-bare-requires-2
 bare-requires-2 c κs = search needs
 
 returns-2 : tie.Need-returns-2
-unfolding placeOf
+unfolding offsetNamed
 returns-2 c = simp (rw (c .before .before .byte .ensures) at (ne-eqb _ _ (c .before .if1 .left)), (c .bare2 .ensures))
 
 pub place-spec : {M : Type 1} → statement M

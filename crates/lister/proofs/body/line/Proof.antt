@@ -24,7 +24,12 @@ same-length : tie.Need-same-length
 same-length c = search needs
 
 returns-2 : tie.Need-returns-2
-returns-2 c = rw (line-some (c .before .before .before .before .before .before .before .before .before .before .before .before .before .before .before .before .before .args .word .now) (c .before .before .before .before .before .before .before .before .before .before .before .before .before .before .before .before .before .args .s .now) (c .before .before .before .before .before .before .before .before .before .before .before .before .before .if1 .left)) (then _ _ _ (c .before .before .before .before .before .before .before .before .before .before .before .put .ensures) (then _ _ _ (c .before .before .before .before .before .before .hexes .ensures) (last _ _ (c .before .before .push-byte .ensures))))
+returns-2 c =
+    let at-hexes = c .before .before .before .before .before .before in
+    let at-put = at-hexes .before .before .before .before .before in
+    let at-start = at-put .before .before .before .before .before .before in
+    rw (line-some (at-start .args .word .now) (at-start .args .s .now) (at-put .before .before .if1 .left))
+    (then _ _ _ (at-put .put .ensures) (then _ _ _ (at-hexes .hexes .ensures) (last _ _ (c .before .before .push-byte .ensures))))
 
 pub line-spec : {M : Type 1} → statement M
 line-spec =

@@ -27,7 +27,11 @@ same-length c = search needs
 
 returns : tie.Need-returns
 unfolding cyclesText
-returns c = then _ _ _ (c .before .before .before .before .before .before .before .before .before .before .before .before .before .before .before .before .before .before .put .ensures) (then _ _ _ (c .before .before .before .before .before .before .before .before .before .before .before .before .before .before .decimal .ensures) (then _ _ _ (c .before .before .before .before .before .before .before .before .before .before .event .ensures) (then _ _ _ (c .before .before .before .before .before .before .flags .ensures) (last _ _ (c .before .before .push-byte .ensures)))))
+returns c =
+    let at-flags = c .before .before .before .before .before .before in
+    let at-decimal = at-flags .before .before .before .before .before .before .before .before in
+    then _ _ _ (at-decimal .before .before .before .before .put .ensures)
+    (then _ _ _ (at-decimal .decimal .ensures) (then _ _ _ (at-flags .before .before .before .before .event .ensures) (then _ _ _ (at-flags .flags .ensures) (last _ _ (c .before .before .push-byte .ensures)))))
 
 pub cycles-spec : {M : Type 1} → statement M
 cycles-spec =

@@ -32,7 +32,11 @@ same-length c = search needs
 
 returns : tie.Need-returns
 unfolding rowText
-returns c = (c .before .before .cycles .ensures) ∙ simp (sym (c .before .before .before .before .before .before .before .before .before .before .byte .ensures) ∙ (c .before .before .before .before .if1 .taken), (c .before .before .before .before .before .two .ensures), (c .before .before .before .before .before .before .before .byte4 .ensures), (c .before .before .before .before .before .before .byte5 .ensures))
+returns c =
+    let at-two = c .before .before .before .before .before in
+    let at-byte = at-two .before .before .before .before .before in
+    (c .before .before .cycles .ensures)
+    ∙ simp (sym (at-byte .byte .ensures) ∙ (c .before .before .before .before .if1 .taken), (at-two .two .ensures), (at-two .before .before .byte4 .ensures), (at-two .before .byte5 .ensures))
 
 read-text-requires : tie.Need-read-text-requires
 read-text-requires c κs = search needs
@@ -48,7 +52,12 @@ same-length-2 c = search needs
 
 returns-2 : tie.Need-returns-2
 unfolding rowText
-returns-2 c = (c .before .before .put .ensures) ∙ simp (sym (c .before .before .before .before .before .before .before .before .before .before .before .before .before .byte .ensures) ∙ (c .before .before .before .before .before .before .if2 .taken), (c .before .before .before .before .before .read-text .ensures), (c .before .before .before .before .before .before .before .before .before .before .before .before .byte2 .ensures), (c .before .before .before .before .before .before .before .before .before .before .before .byte3 .ensures), (c .before .before .before .before .before .before .before .before .before .before .byte4 .ensures))
+returns-2 c =
+    let at-read-text = c .before .before .before .before .before in
+    let at-byte4 = at-read-text .before .before .before .before .before in
+    (c .before .before .put .ensures)
+    ∙ simp
+    (sym (at-byte4 .before .before .before .byte .ensures) ∙ (at-read-text .before .if2 .taken), (at-read-text .read-text .ensures), (at-byte4 .before .before .byte2 .ensures), (at-byte4 .before .byte3 .ensures), (at-byte4 .byte4 .ensures))
 
 write-text-requires : tie.Need-write-text-requires
 write-text-requires c κs = search needs
@@ -64,7 +73,12 @@ same-length-3 c = search needs
 
 returns-3 : tie.Need-returns-3
 unfolding rowText
-returns-3 c = (c .before .before .put2 .ensures) ∙ simp (sym (c .before .before .before .before .before .before .before .before .before .before .before .before .before .before .byte .ensures) ∙ (c .before .before .before .before .before .before .if3 .taken), (c .before .before .before .before .before .write-text .ensures), (c .before .before .before .before .before .before .before .before .before .before .before .before .before .byte2 .ensures), (c .before .before .before .before .before .before .before .before .before .before .before .before .byte3 .ensures), (c .before .before .before .before .before .before .before .before .before .before .before .byte4 .ensures), (c .before .before .before .before .before .before .before .before .before .before .byte5 .ensures))
+returns-3 c =
+    let at-write-text = c .before .before .before .before .before in
+    let at-byte5 = at-write-text .before .before .before .before .before in
+    (c .before .before .put2 .ensures)
+    ∙ simp
+    (sym (at-byte5 .before .before .before .before .byte .ensures) ∙ (at-write-text .before .if3 .taken), (at-write-text .write-text .ensures), (at-byte5 .before .before .before .byte2 .ensures), (at-byte5 .before .before .byte3 .ensures), (at-byte5 .before .byte4 .ensures), (at-byte5 .byte5 .ensures))
 
 pad-requires : tie.Need-pad-requires
 pad-requires c κs = search needs
@@ -74,7 +88,11 @@ same-length-4 c = search needs
 
 returns-4 : tie.Need-returns-4
 unfolding rowText
-returns-4 c = (c .before .before .pad .ensures) ∙ simp (sym (c .before .before .before .before .before .before .before .before .before .before .before .before .before .byte .ensures) ∙ (c .before .before .before .before .if4 .taken), (c .before .before .before .before .before .before .before .before .before .before .before .before .byte2 .ensures), (c .before .before .before .before .before .before .before .before .before .before .before .byte3 .ensures), (c .before .before .before .before .before .before .before .before .before .before .byte4 .ensures))
+returns-4 c =
+    let at-byte4 = c .before .before .before .before .before .before .before .before .before .before in
+    (c .before .before .pad .ensures)
+    ∙ simp
+    (sym (at-byte4 .before .before .before .byte .ensures) ∙ (c .before .before .before .before .if4 .taken), (at-byte4 .before .before .byte2 .ensures), (at-byte4 .before .byte3 .ensures), (at-byte4 .byte4 .ensures))
 
 plug-requires : tie.Need-plug-requires
 plug-requires c κs = search needs
@@ -84,7 +102,10 @@ same-length-5 c = search needs
 
 returns-5 : tie.Need-returns-5
 unfolding rowText
-returns-5 c = (c .before .before .plug .ensures) ∙ simp (sym (c .before .before .before .before .before .before .before .before .before .before .before .before .before .before .byte .ensures) ∙ (c .before .before .before .before .if5 .taken), (c .before .before .before .before .before .before .before .before .before .before .before .before .before .byte2 .ensures), (c .before .before .before .before .before .before .before .before .before .before .before .before .byte3 .ensures))
+returns-5 c =
+    let at-byte3 = c .before .before .before .before .before .before .before .before .before .before .before .before in
+    (c .before .before .plug .ensures)
+    ∙ simp (sym (at-byte3 .before .before .byte .ensures) ∙ (c .before .before .before .before .if5 .taken), (at-byte3 .before .byte2 .ensures), (at-byte3 .byte3 .ensures))
 
 answer-text-requires : tie.Need-answer-text-requires
 answer-text-requires c κs = search needs
@@ -100,7 +121,12 @@ same-length-6 c = search needs
 
 returns-6 : tie.Need-returns-6
 unfolding rowText
-returns-6 c = (c .before .before .put3 .ensures) ∙ simp (sym (c .before .before .before .before .before .before .before .before .before .before .before .before .before .before .before .before .before .byte .ensures) ∙ (c .before .before .before .before .before .before .if6 .taken), (c .before .before .before .before .before .answer-text .ensures), (c .before .before .before .before .before .before .before .before .before .before .before .before .before .before .before .byte3 .ensures), (c .before .before .before .before .before .before .before .before .before .before .before .before .before .before .byte4 .ensures), (c .before .before .before .before .before .before .before .before .before .before .before .before .before .byte5 .ensures))
+returns-6 c =
+    let at-answer-text = c .before .before .before .before .before in
+    let at-byte5 = at-answer-text .before .before .before .before .before .before .before .before in
+    (c .before .before .put3 .ensures)
+    ∙ simp
+    (sym (at-byte5 .before .before .before .before .byte .ensures) ∙ (at-answer-text .before .if6 .taken), (at-answer-text .answer-text .ensures), (at-byte5 .before .before .byte3 .ensures), (at-byte5 .before .byte4 .ensures), (at-byte5 .byte5 .ensures))
 
 slice-aggregate-number-line : tie.Need-slice-aggregate-number-line
 slice-aggregate-number-line c = search needs
@@ -113,11 +139,29 @@ same-length-7 c = search needs
 
 returns-7 : tie.Need-returns-7
 unfolding rowText backText
-returns-7 c = (c .before .before .number-line .ensures) ∙ simp (sym (c .before .before .before .before .before .before .before .before .before .before .before .before .before .before .before .before .before .byte .ensures) ∙ (c .before .before .before .before .before .if7 .taken), (c .before .before .before .before .before .before .before .before .before .before .before .before .two .ensures))
+returns-7 c =
+    let at-if7 = c .before .before .before .before .before in
+    let at-two = at-if7 .before .before .before .before .before .before .before in
+    let at-byte = at-two .before .before .before .before .before in
+    (c .before .before .number-line .ensures)
+    ∙ simp (sym (at-byte .byte .ensures) ∙ (at-if7 .if7 .taken), (at-two .two .ensures))
 
 returns-8 : tie.Need-returns-8
 unfolding rowText
-returns-8 c = simp (ne-eqb _ _ (λ e. (c .before .before .before .before .before .before .if1 .left) ((c .before .before .before .before .before .before .before .before .before .before .before .before .byte .ensures) ∙ e)), ne-eqb _ _ (λ e. (c .before .before .before .before .before .if2 .left) ((c .before .before .before .before .before .before .before .before .before .before .before .before .byte .ensures) ∙ e)), ne-eqb _ _ (λ e. (c .before .before .before .before .if3 .left) ((c .before .before .before .before .before .before .before .before .before .before .before .before .byte .ensures) ∙ e)), ne-eqb _ _ (λ e. (c .before .before .before .if4 .left) ((c .before .before .before .before .before .before .before .before .before .before .before .before .byte .ensures) ∙ e)), ne-eqb _ _ (λ e. (c .before .before .if5 .left) ((c .before .before .before .before .before .before .before .before .before .before .before .before .byte .ensures) ∙ e)), ne-eqb _ _ (λ e. (c .before .if6 .left) ((c .before .before .before .before .before .before .before .before .before .before .before .before .byte .ensures) ∙ e)), ne-eqb _ _ (λ e. (c .if7 .left) ((c .before .before .before .before .before .before .before .before .before .before .before .before .byte .ensures) ∙ e))) (sym (puts-none _))
+returns-8 c =
+    let at-if2 = c .before .before .before .before .before in
+    let at-byte = at-if2 .before .before .before .before .before .before .before in
+    let is = at-byte .byte .ensures in
+    simp (
+      ne-eqb _ _ (λ e. at-if2 .before .if1 .left (is ∙ e)),
+      ne-eqb _ _ (λ e. at-if2 .if2 .left (is ∙ e)),
+      ne-eqb _ _ (λ e. c .before .before .before .before .if3 .left (is ∙ e)),
+      ne-eqb _ _ (λ e. c .before .before .before .if4 .left (is ∙ e)),
+      ne-eqb _ _ (λ e. c .before .before .if5 .left (is ∙ e)),
+      ne-eqb _ _ (λ e. c .before .if6 .left (is ∙ e)),
+      ne-eqb _ _ (λ e. c .if7 .left (is ∙ e)),
+    )
+    (sym (puts-none _))
 
 pub write-row-spec : {M : Type 1} → statement M
 write-row-spec =

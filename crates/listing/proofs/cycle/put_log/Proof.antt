@@ -41,7 +41,12 @@ loop-less : tie.Need-loop-less Inv-loop μ-loop
 loop-less c = omega arith
 
 loop-again : tie.Need-loop-again Inv-loop μ-loop
-loop-again c = ((c .before .before .put-access .kept .0) ∙ (c .before .before .before .before .before .before .before .before .loop .inv .0), omega (arith, (c .before .before .before .before .before .before .before .loop-test .taken)), (c .before .before .before .before .before .before .before .before .loop .inv .2), (c .before .before .before .before .before .before .before .before .loop .inv .3) ∙ accesses-next _ _ _ _ _ _ _ (c .before .before .before .before .before .before .before .loop-test .taken) (c .before .before .before .before .before .before .before .before .loop .inv .2) refl (c .before .before .before .before .before .reached .ensures) (c .before .before .put-access .ensures))
+loop-again c =
+    let at-put-access = c .before .before in
+    let at-reached = at-put-access .before .before .before in
+    let at-loop-test = at-reached .before .before in
+    let at-loop = at-loop-test .before in
+    ((at-put-access .put-access .kept .0) ∙ (at-loop .loop .inv .0), omega (arith, (at-loop-test .loop-test .taken)), (at-loop .loop .inv .2), (at-loop .loop .inv .3) ∙ accesses-next _ _ _ _ _ _ _ (at-loop-test .loop-test .taken) (at-loop .loop .inv .2) refl (at-reached .reached .ensures) (at-put-access .put-access .ensures))
 
 same-length : tie.Need-same-length Inv-loop μ-loop
 same-length c = (c .before .loop .inv .0)

@@ -47,7 +47,14 @@ same-length : tie.Need-same-length
 same-length c = search needs
 
 returns-2 : tie.Need-returns-2
-returns-2 c = back-joined _ _ _ _ _ _ (ne-eqb _ _ (c .before .before .before .before .before .before .before .before .before .before .before .before .before .before .before .before .before .before .before .before .before .before .before .before .before .before .before .before .before .before .before .before .before .before .before .before .if1 .left)) (c .before .before .before .before .before .before .before .before .before .before .before .before .before .before .before .before .before .before .before .before .before .before .before .before .before .before .before .before .before .before .before .before .before .before .head .ensures) (c .before .before .before .before .before .before .before .before .before .before .before .before .before .before .before .before .before .before .before .before .before .before .before .before .before .before .before .before .before .put .ensures) (c .before .before .before .before .before .before .before .before .before .before .before .before .before .before .before .before .before .before .before .before .before .before .before .before .before .decimal .ensures) (c .before .before .before .before .before .before .before .before .before .before .before .before .before .before .before .before .before .before .before .before .put2 .ensures) (c .before .before .before .before .before .before .before .before .before .before .before .before .before .before .before .before .decimal2 .ensures) (c .before .before .before .before .before .before .before .before .before .before .before .put3 .ensures) (c .before .before .before .before .before .before .before .put-origin .ensures) (c .before .before .put4 .ensures)
+returns-2 c =
+    let at-put-origin = c .before .before .before .before .before .before .before in
+    let at-decimal2 = at-put-origin .before .before .before .before .before .before .before .before .before in
+    let at-decimal = at-decimal2 .before .before .before .before .before .before .before .before .before in
+    let at-head = at-decimal .before .before .before .before .before .before .before .before .before in
+    back-joined _ _ _ _ _ _ (ne-eqb _ _ (at-head .before .before .if1 .left)) (at-head .head .ensures) (at-decimal .before .before .before .before .put .ensures)
+    (at-decimal .decimal .ensures) (at-decimal2 .before .before .before .before .put2 .ensures) (at-decimal2 .decimal2 .ensures) (at-put-origin .before .before .before .before .put3 .ensures)
+    (at-put-origin .put-origin .ensures) (c .before .before .put4 .ensures)
 
 pub put-back-spec : {M : Type 1} → statement M
 put-back-spec =

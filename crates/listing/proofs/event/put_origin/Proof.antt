@@ -47,7 +47,12 @@ same-length-2 : tie.Need-same-length-2
 same-length-2 c = search needs
 
 returns-2 : tie.Need-returns-2
-returns-2 c = origin-later _ _ (ne-eqb _ _ (c .before .before .before .before .before .before .before .before .before .before .before .before .before .before .before .before .before .before .if1 .left)) (c .before .before .before .before .before .before .before .before .before .before .before .before .before .before .before .put2 .ensures) (c .before .before .before .before .before .before .before .before .before .before .before .decimal2 .ensures) (c .before .before .before .before .before .before .put3 .ensures) (c .before .before .decimal3 .ensures)
+returns-2 c =
+    let at-put3 = c .before .before .before .before .before .before in
+    let at-decimal2 = at-put3 .before .before .before .before .before in
+    let at-if1 = at-decimal2 .before .before .before .before .before .before .before in
+    origin-later _ _ (ne-eqb _ _ (at-if1 .if1 .left)) (at-decimal2 .before .before .before .before .put2 .ensures) (at-decimal2 .decimal2 .ensures)
+    (at-put3 .put3 .ensures) (c .before .before .decimal3 .ensures)
 
 pub put-origin-spec : {M : Type 1} → statement M
 put-origin-spec =

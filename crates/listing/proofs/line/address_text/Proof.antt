@@ -33,7 +33,10 @@ glyph-requires-8 : tie.Need-glyph-requires-8
 glyph-requires-8 c κs = search needs
 
 returns : tie.Need-returns
-returns c = simp (c .glyph8 .ensures, c .before .glyph7 .ensures, c .before .before .before .glyph6 .ensures, c .before .before .before .before .glyph5 .ensures, c .before .before .before .before .before .glyph4 .ensures, c .before .before .before .before .before .before .glyph3 .ensures, c .before .before .before .before .before .before .before .glyph2 .ensures, c .before .before .before .before .before .before .before .before .glyph .ensures)
+returns c =
+    let at-glyph4 = c .before .before .before .before .before in
+    simp
+    (c .glyph8 .ensures, c .before .glyph7 .ensures, c .before .before .before .glyph6 .ensures, c .before .before .before .before .glyph5 .ensures, at-glyph4 .glyph4 .ensures, at-glyph4 .before .glyph3 .ensures, at-glyph4 .before .before .glyph2 .ensures, at-glyph4 .before .before .before .glyph .ensures)
 
 pub address-text-spec : {M : Type 1} → statement M
 address-text-spec =

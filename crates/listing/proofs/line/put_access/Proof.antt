@@ -56,7 +56,17 @@ same-length : tie.Need-same-length
 same-length c = search needs
 
 returns-2 : tie.Need-returns-2
-returns-2 c = access-joined _ _ _ _ _ (not-false _ (c .before .before .before .before .before .before .before .before .before .before .before .before .before .before .before .before .before .before .before .before .before .before .before .before .before .before .before .before .before .before .before .before .before .before .before .before .before .before .before .if1 .left)) (c .before .before .before .before .before .before .before .before .before .before .before .before .before .before .before .before .before .before .before .before .before .before .before .before .before .before .before .before .before .before .before .before .before .before .before .before .before .before .who-text .ensures) (c .before .before .before .before .before .before .before .before .before .before .before .before .before .before .before .before .before .before .before .before .before .before .before .before .before .before .before .before .before .before .before .before .before .before .before .before .before .verb-text .ensures) (c .before .before .before .before .before .before .before .before .before .before .before .before .before .before .before .before .before .before .before .before .before .before .before .before .before .before .before .before .before .before .before .before .before .before .before .before .address-text .ensures) (c .before .before .before .before .before .before .before .before .before .before .before .before .before .before .before .before .before .before .before .before .before .before .before .before .before .before .before .before .before .before .before .before .before .before .head .ensures) (c .before .before .before .before .before .before .before .before .before .before .before .before .before .before .before .before .before .before .before .before .before .before .before .before .before .before .before .before .before .put .ensures) (c .before .before .before .before .before .before .before .before .before .before .before .before .before .before .before .before .before .before .before .before .before .before .before .before .put2 .ensures) (c .before .before .before .before .before .before .before .before .before .before .before .before .before .before .before .before .before .before .before .put3 .ensures) (c .before .before .before .before .before .before .before .before .before .before .before .before .before .before .before .put-spot .ensures) (c .before .before .before .before .before .before .before .before .before .before .before .put-own .ensures) (c .before .before .before .before .before .before .before .put-zero .ensures) (c .before .before .put4 .ensures)
+returns-2 c =
+    let at-put-zero = c .before .before .before .before .before .before .before in
+    let at-put-spot = at-put-zero .before .before .before .before .before .before .before .before in
+    let at-put2 = at-put-spot .before .before .before .before .before .before .before .before .before in
+    let at-put = at-put2 .before .before .before .before .before in
+    let at-head = at-put .before .before .before .before .before in
+    let at-if1 = at-head .before .before .before .before .before in
+    access-joined _ _ _ _ _ (not-false _ (at-if1 .if1 .left)) (at-head .before .before .before .before .who-text .ensures)
+    (at-head .before .before .before .verb-text .ensures) (at-head .before .before .address-text .ensures) (at-head .head .ensures)
+    (at-put .put .ensures) (at-put2 .put2 .ensures) (at-put-spot .before .before .before .before .put3 .ensures) (at-put-spot .put-spot .ensures)
+    (at-put-zero .before .before .before .before .put-own .ensures) (at-put-zero .put-zero .ensures) (c .before .before .put4 .ensures)
 
 pub put-access-spec : {M : Type 1} → statement M
 put-access-spec =

@@ -1,26 +1,30 @@
 use Prim.Native.Nat.{_-_}
-use lib.ListN.{length}
+use mathlib.Core.Path.{_≡_, refl, sym, _∙_}
 use native.Mathlib.Omega.{arith}
+use lib.ListN.{length, drop}
+use Rattle.textual.specs.Mark.{marksFrom, marksOf}
+use Rattle.textual.proofs.Marks.{marks-next, marks-end}
 use Rattle.textual.proofs.mark.marks_in.Statement.{statement}
 use Rattle.textual.proofs.mark.marks_in.Tie as tie
 
 abbrev Inv-loop : tie.InvT-loop
-Inv-loop s most inside m₀ i₀ m i = Unit
+Inv-loop s most inside m₀ i₀ m i = marksOf most inside s ≡ marksFrom most inside (drop i s) i m
 
 abbrev μ-loop : tie.MeasureT-loop
 μ-loop s most inside m₀ i₀ m i = length s - i
 
 loop-holds : tie.Need-loop-holds Inv-loop μ-loop
-loop-holds c = tt
-
-shared-slice-read-sign : tie.Need-shared-slice-read-sign Inv-loop μ-loop
-shared-slice-read-sign c = omega arith
-
-sign-requires : tie.Need-sign-requires Inv-loop μ-loop
-sign-requires c κs = tt
+unfolding marksOf
+loop-holds c = refl
 
 add-i : tie.Need-add-i Inv-loop μ-loop
 add-i c = omega arith
+
+shared-slice-read-wanted : tie.Need-shared-slice-read-wanted Inv-loop μ-loop
+shared-slice-read-wanted c = omega arith
+
+wanted-requires : tie.Need-wanted-requires Inv-loop μ-loop
+wanted-requires c κs = tt
 
 passed-requires : tie.Need-passed-requires Inv-loop μ-loop
 passed-requires c κs = tt
@@ -29,10 +33,12 @@ loop-less : tie.Need-loop-less Inv-loop μ-loop
 loop-less c = omega arith
 
 loop-again : tie.Need-loop-again Inv-loop μ-loop
-loop-again c = tt
+loop-again c =
+    (c .before .before .before .before .loop .inv)
+    ∙ marks-next _ _ _ _ _ (c .before .before .before .loop-test .taken) (c .before .wanted .ensures) (c .passed .ensures)
 
 returns : tie.Need-returns Inv-loop μ-loop
-returns c = tt
+returns c = sym ((c .before .loop .inv) ∙ marks-end _ _ _ _ _ (c .loop-test .left))
 
 pub marks-in-spec : {M : Type 1} → statement M
 marks-in-spec =
@@ -41,9 +47,9 @@ marks-in-spec =
     Inv-loop
     μ-loop
     loop-holds
-    shared-slice-read-sign
-    sign-requires
     add-i
+    shared-slice-read-wanted
+    wanted-requires
     passed-requires
     loop-less
     loop-again

@@ -1,9 +1,9 @@
 // Little-endian numbers at a place of a slice. A byte past the end reads 0.
 ghost use mathlib.Core.Path.{_≡_};
 ghost use denote.Ref.{now};
 ghost use Rattle.fields.specs.Bytes.{byteAt};
 ghost use Rattle.fields.specs.Little.{field};
-use common::u16_split;
+use crate::join2;
 
 pub fn byte(s: &[u8], at: usize) -> u8
     ensures { λ r. ⌜ r ≡ byteAt (now (s .entry)) at ⌝ }
@@ -19,7 +19,7 @@ pub fn two(s: &[u8], at: usize) -> u16
     }
     let low = byte(s, at);
     let high = byte(s, at + 1);
-    u16_split::join(low, high)
+    join2(low, high)
 }
 
 pub fn four(s: &[u8], at: usize) -> u32

@@ -1,8 +1,8 @@
 use mathlib.Core.Path.{sym}
 use lib.ListN.{List·getD-eq-default}
 use borrow.Author.Needs.{needs}
-use Rattle.benchfile.proofs.word.byte.Statement.{statement}
-use Rattle.benchfile.proofs.word.byte.Tie as tie
+use Rattle.fields.proofs.word.byte.Statement.{statement}
+use Rattle.fields.proofs.word.byte.Tie as tie
 
 shared-slice-read-result : tie.Need-shared-slice-read-result
 shared-slice-read-result c = search needs

@@ -1,9 +1,9 @@
 use mathlib.Core.Path.{sym, _∙_}
 use native.Mathlib.Nat.{le-refl}
-use Rattle.benchfile.proofs.Parts.{part-none, part-rest, part-to}
+use Rattle.fields.proofs.Parts.{part-none, part-rest, part-to}
 use borrow.Author.Needs.{needs}
-use Rattle.benchfile.proofs.part.part.Statement.{statement}
-use Rattle.benchfile.proofs.part.part.Tie as tie
+use Rattle.fields.proofs.part.part.Statement.{statement}
+use Rattle.fields.proofs.part.part.Tie as tie
 
 sub-result : tie.Need-sub-result
 sub-result c = search needs

@@ -6,9 +6,8 @@ use native.Mathlib.Numerals.{add-one}
 use native.Mathlib.Omega.{arith}
 use lib.ListN.{length, drop, length-drop, drop-of-length-le, List·getD-eq-default}
 use lib.Seq.{take-nil, take-all, take-at, drop-at, drop-cons}
-use Rattle.common.specs.Word.{word}
 use Rattle.fields.specs.Little.{span, field}
 use Rattle.fields.specs.Bytes.{byteAt, partOf}
 use Rattle.common.specs.Width.{Byte, Bytes}
 use Rattle.common.proofs.AllLaws.{all-take, all-drop}
 
@@ -30,10 +29,7 @@ field-none (suc n) l k h =
     let next : field n l (k + 1) ≡ 0 = field-none n l (k + 1) (omega arith) in
     rw (List·getD-eq-default l 0 h, next)
 
--- a number of two bytes, and one of four by its halves
-pub two-word : (l : List ℕ) (k : ℕ) → word (byteAt l k) (byteAt l (k + 1)) ≡ field 2 l k
-two-word l k = omega arith
-
+-- a number of four bytes by its halves
 pub four-halves : (l : List ℕ) (k : ℕ) → field 2 l (k + 2) * 65536 + field 2 l k ≡ field 4 l k
 four-halves l k = let e : k + 1 + 1 ≡ k + 2 = omega arith in rw e (omega arith)
 

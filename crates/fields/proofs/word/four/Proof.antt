@@ -1,8 +1,8 @@
 use mathlib.Core.Path.{sym}
-use Rattle.benchfile.proofs.Parts.{field-none, four-halves}
+use Rattle.fields.proofs.Parts.{field-none, four-halves}
 use borrow.Author.Needs.{needs}
-use Rattle.benchfile.proofs.word.four.Statement.{statement}
-use Rattle.benchfile.proofs.word.four.Tie as tie
+use Rattle.fields.proofs.word.four.Statement.{statement}
+use Rattle.fields.proofs.word.four.Tie as tie
 
 returns : tie.Need-returns
 returns c = sym (field-none 4 (c .before .before .args .s .now) _ (c .if1 .taken))

@@ -1,0 +1,51 @@
+use Rattle.textual.specs.Name.{nameOf}
+use borrow.Author.Needs.{needs}
+use Rattle.textual.proofs.name.name_in.Statement.{statement}
+use Rattle.textual.proofs.name.name_in.Tie as tie
+
+part-requires : tie.Need-part-requires
+part-requires c κs = search needs
+
+marks-in-requires : tie.Need-marks-in-requires
+marks-in-requires c κs = search needs
+
+part-requires-2 : tie.Need-part-requires-2
+part-requires-2 c κs = search needs
+
+marks-in-requires-2 : tie.Need-marks-in-requires-2
+marks-in-requires-2 c κs = search needs
+
+part-requires-3 : tie.Need-part-requires-3
+part-requires-3 c κs = search needs
+
+part-requires-4 : tie.Need-part-requires-4
+part-requires-4 c κs = search needs
+
+returns : tie.Need-returns
+unfolding nameOf
+returns c =
+    let at-part3 = c .before in
+    let at-marks-in2 = at-part3 .before in
+    let at-part2 = at-marks-in2 .before in
+    let at-marks-in = at-part2 .before in
+    let at-part = at-marks-in .before in
+    simp (
+      c .part4 .ensures,
+      at-part3 .part3 .ensures,
+      at-marks-in2 .marks-in2 .ensures,
+      at-part2 .part2 .ensures,
+      at-marks-in .marks-in .ensures,
+      at-part .part .ensures,
+    )
+
+pub name-in-spec : {M : Type 1} → statement M
+name-in-spec =
+    tie.close
+    (tie.spec
+    part-requires
+    marks-in-requires
+    part-requires-2
+    marks-in-requires-2
+    part-requires-3
+    part-requires-4
+    returns)

@@ -4,11 +4,11 @@ use append::push_byte;
 use append::put;
 use benchfile::part::part;
 use benchfile::word::four;
-use console::output::write_text;
-use console::output::write_trace;
 use input::read_all;
 use libc::STDERR_FILENO;
 use libc::STDIN_FILENO;
+use printout::output::write_text;
+use printout::output::write_trace;
 
 fn cut_short() -> bool {
     io::write_all(STDERR_FILENO, b"the list is cut short\n");

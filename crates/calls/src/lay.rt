@@ -2,7 +2,7 @@
 use crate::carry::up_to;
 use fields::join2;
 use fields::put;
-use lines::fill::fill_bank;
+use start::fill::fill_bank;
 
 // A bank with one byte more, so that one too long can be lent.
 pub const BANK: usize = 65537;

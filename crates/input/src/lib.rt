@@ -1,4 +1,12 @@
-// Input read to its end, or until a buffer is full, however many pieces it comes in.
+// What a program is given: its input, read to its end, and the place that its argument names; and what is wrong with them.
+pub mod complaint;
+
+use fields::part::part;
+use complaint::no_place;
+use complaint::unread;
+use dump::place::place;
+use libc::ENAMETOOLONG;
+use libc::STDIN_FILENO;
 
 // How many bytes came, and whether every read succeeded.
 pub struct Got {
@@ -6,6 +14,7 @@ pub struct Got {
     pub ok: bool,
 }
 
+// Until the end of input, or until the buffer is full, however many pieces it comes in.
 pub fn read_all(fd: i32, buf: &mut [u8]) -> Got {
     let mut n = 0;
     while n < buf.len() {
@@ -20,4 +29,34 @@ pub fn read_all(fd: i32, buf: &mut [u8]) -> Got {
         n += more;
     }
     Got { n: n, ok: true }
+}
+
+// The bench file on standard input, for the program of that name. A buffer of one byte more than a bench file may have tells a longer one.
+pub fn read_bench(name: &[u8], buf: &mut [u8]) -> Got {
+    let got = read_all(STDIN_FILENO, buf);
+    if !got.ok {
+        unread(name);
+    }
+    got
+}
+
+// The length of the first argument; of a long one the buffer has the start.
+fn argument(buf: &mut [u8]) -> usize {
+    let n = os::arg(1, buf);
+    if os::errno() == ENAMETOOLONG {
+        return buf.len();
+    }
+    n
+}
+
+// The place in work RAM that the first argument names; 131,072 where it names none.
+pub fn place_given(name: &[u8]) -> u32 {
+    let mut buf = [0u8; 64];
+    let n = argument(&mut buf);
+    let word = part(&buf, 0, n);
+    let at = place(word);
+    if at > 131071 {
+        no_place(name, word);
+    }
+    at
 }

@@ -11,65 +11,67 @@ use borrow.Author.Tests.{leb-true, leb-false, le-leb, lt-leb, eq-eqb, ne-eqb}
 use Rattle.common.specs.Pick.{pick}
 use Rattle.bench.specs.declared.Bench.{Bench}
 use Rattle.bench.specs.Calls.{desk}
-use Rattle.benchfile.specs.File.{sectionOf}
+use Rattle.benchfile.specs.File.{bodyOf}
 use Rattle.benchfile.specs.Row.{rowBytes, rowOf}
 use Rattle.script.specs.Run.{Running}
 use Rattle.script.specs.Row.{rowRun}
-use Rattle.append.specs.Sheet.{shownOf}
+use Rattle.append.specs.Sheet.{sheet, puts, shownOf}
 use Rattle.append.proofs.Laws.{puts-room}
-use Rattle.lines.specs.Line.{lineText, refusedText}
-use Rattle.lines.proofs.Most.{line-most}
-use Rattle.printout.specs.Row.{lineOf, rowShown}
+use Rattle.start.specs.Start.{refusalOf, startRun}
+use Rattle.printout.specs.Line.{lineText, refusedText}
+use Rattle.printout.specs.Row.{textOf, rowShown}
 use Rattle.printout.specs.Rows.{Standing, start, after, stepped, steps}
-use Rattle.printout.specs.Start.{refusalOf, startRun}
+use Rattle.printout.specs.declared.row.Show.{Show}
+use Rattle.printout.specs.declared.row.Show.the-variants.{Line}
 use Rattle.printout.specs.Trace.{linesFrom, restOf, wholeOf, zeros, traceText}
+use Rattle.printout.proofs.Most.{line-most, shown-most}
 
-module _ (rom script : List ℕ) where
+module _ (rom script : List ℕ) (show : Show) where
   -- the first of the rows left, run
   restAfter : (s : Standing) → Running → List ℕ
-  restAfter s x = pick (eqb (x .number) 0) (linesFrom rom script (length script / 8 - (s .next + 1)) (s .next + 1) (x .desk)) []
+  restAfter s x = pick (eqb (x .number) 0) (linesFrom rom script show (length script / 8 - (s .next + 1)) (s .next + 1) (x .desk)) []
 
   rest-line : (s : Standing) → s .next < length script / 8 → eqb (s .number) 0 ≡ true
-      → restOf rom script s ≡ lineOf (s .next + 1) (rowBytes script (s .next)) (rowRun rom (rowOf (rowBytes script (s .next))) (s .desk)) ++ restAfter s (rowRun rom (rowOf (rowBytes script (s .next))) (s .desk))
+      → restOf rom script show s ≡ textOf show (s .next + 1) (rowBytes script (s .next)) (rowRun rom (rowOf (rowBytes script (s .next))) (s .desk)) ++ restAfter s (rowRun rom (rowOf (rowBytes script (s .next))) (s .desk))
   unfolding linesFrom restAfter
   rest-line s n z =
       let k : length script / 8 - s .next ≡ suc (length script / 8 - (s .next + 1)) = omega arith in
       rw (z, k) refl
 
   line-kept : (s : Standing) → s .next < length script / 8 → eqb (s .number) 0 ≡ true → s .out .at + 105 ≤ length (s .out .text)
-      → wholeOf rom script (after s (rowShown rom (rowBytes script (s .next)) (s .next + 1) (s .desk) (s .out))) ≡ wholeOf rom script s
+      → wholeOf rom script show (after s (rowShown rom (rowBytes script (s .next)) (s .next + 1) show (s .desk) (s .out))) ≡ wholeOf rom script show s
   unfolding rowShown wholeOf restAfter
   line-kept s n z r =
       let row = rowBytes script (s .next) in
       let x = rowRun rom (rowOf row) (s .desk) in
-      let line = lineOf (s .next + 1) row x in
+      let line = textOf show (s .next + 1) row x in
       let old = shownOf (s .out) in
-      let m : length line ≤ 105 = line-most _ _ _ _ _ in
+      let m : length line ≤ 105 = shown-most show _ _ _ _ _ in
       let g = puts-room line (s .out .text) (s .out .at) (omega arith) in
       ap (λ (l : List ℕ). l ++ restAfter s x) (g .0) ∙ append-assoc old line (restAfter s x) ∙ ap (λ (l : List ℕ). old ++ l) (sym (rest-line s n z))
 
   kept-by : (s : Standing) (a b c : Bool) → leb (length script / 8) (s .next) ≡ a → eqb (s .number) 0 ≡ b
-      → leb (s .out .at + 105) (length (s .out .text)) ≡ c → wholeOf rom script (stepped rom script s) ≡ wholeOf rom script s
+      → leb (s .out .at + 105) (length (s .out .text)) ≡ c → wholeOf rom script show (stepped rom script show s) ≡ wholeOf rom script show s
   unfolding stepped
   kept-by s true b c p q r = rw p refl
   kept-by s false false c p q r = rw (p, q) refl
   kept-by s false true false p q r = rw (p, q, r) refl
   kept-by s false true true p q r = rw (p, q, r) (line-kept s (leb-false _ _ p) q (leb-true _ _ r))
 
-  steps-kept : (n : ℕ) (s : Standing) → wholeOf rom script (steps rom script n s) ≡ wholeOf rom script s
+  steps-kept : (n : ℕ) (s : Standing) → wholeOf rom script show (steps rom script show n s) ≡ wholeOf rom script show s
   unfolding steps
   steps-kept zero s = refl
-  steps-kept (suc n) s = kept-by (steps rom script n s) _ _ _ refl refl refl ∙ steps-kept n s
+  steps-kept (suc n) s = kept-by (steps rom script show n s) _ _ _ refl refl refl ∙ steps-kept n s
 
   -- what a call of run_rows leaves in the buffer, followed by what is still to be printed, is the text of the rows from `first` on
   pub part-text : (b : Bench) (l h e : List ℕ) (first : ℕ) (out : List ℕ) (n : ℕ)
-      → linesFrom rom script (length script / 8 - first) first (desk b l h e) ≡ wholeOf rom script (steps rom script n (start b l h e first out))
+      → linesFrom rom script show (length script / 8 - first) first (desk b l h e) ≡ wholeOf rom script show (steps rom script show n (start b l h e first out))
   unfolding wholeOf
   part-text b l h e first out n = sym (steps-kept n (start b l h e first out))
 
   -- a step never goes back, and goes on where a row is left, none was refused and its line has room
   onward-by : (s : Standing) (a b c : Bool) → leb (length script / 8) (s .next) ≡ a → eqb (s .number) 0 ≡ b
-      → leb (s .out .at + 105) (length (s .out .text)) ≡ c → s .next ≤ stepped rom script s .next
+      → leb (s .out .at + 105) (length (s .out .text)) ≡ c → s .next ≤ stepped rom script show s .next
   unfolding stepped
   onward-by s true b c p q r = rw p (omega arith)
   onward-by s false false c p q r = rw (p, q) (omega arith)
@@ -78,28 +80,28 @@ module _ (rom script : List ℕ) where
 
   -- so a call of run_rows with room for a line runs at least one of the rows that are left
   pub goes-on : (n : ℕ) (s : Standing) → s .next < length script / 8 → s .number ≡ 0 → s .out .at + 105 ≤ length (s .out .text)
-      → s .next < steps rom script (suc n) s .next
+      → s .next < steps rom script show (suc n) s .next
   unfolding steps stepped
   goes-on zero s h z r = rw (lt-leb _ _ h, eq-eqb _ _ z, le-leb _ _ r) (omega arith)
   goes-on (suc n) s h z r =
-      let t = steps rom script (suc n) s in
+      let t = steps rom script show (suc n) s in
       let k : s .next < t .next = goes-on n s h z r in
-      let l : t .next ≤ stepped rom script t .next = onward-by t _ _ _ refl refl refl in
+      let l : t .next ≤ stepped rom script show t .next = onward-by t _ _ _ refl refl refl in
       omega arith
 
 -- a file that can be run: the text of its rows from the first, on what `begin` leaves
-pub trace-starts : (f out : List ℕ) → refusalOf f ≡ 0
-    → let s = startRun f zeros zeros out in
-    traceText f ≡ linesFrom (sectionOf f 2) (sectionOf f 3) (length (sectionOf f 3) / 8 - 0) 0 (desk (s .bench) (s .low) (s .high) zeros)
+pub trace-starts : (f : List ℕ) → refusalOf f ≡ 0
+    → let s = startRun f zeros zeros in
+    traceText f ≡ linesFrom (bodyOf f 2) (bodyOf f 3) Line (length (bodyOf f 3) / 8 - 0) 0 (desk (s .start .bench) (s .low) (s .high) zeros)
 unfolding traceText startRun
-trace-starts f out z =
-    let n = length (sectionOf f 3) / 8 in
+trace-starts f z =
+    let n = length (bodyOf f 3) / 8 in
     let k : n - 0 ≡ n = omega arith in
     rw (eq-eqb (refusalOf f) 0 z, k) refl
 
 -- a file that cannot be run: its only line
 pub trace-refused : (f l h out : List ℕ) → (refusalOf f ≡ 0 → ⊥) → 105 ≤ length out
-    → shownOf (startRun f l h out .out) ≡ traceText f
+    → shownOf (puts (sheet out 0) (lineText 0 0 (startRun f l h .start .number) 0 0)) ≡ traceText f
 unfolding traceText startRun refusedText
 trace-refused f l h out z r =
     let m = line-most 0 0 (refusalOf f) 0 0 in

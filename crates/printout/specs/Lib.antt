@@ -1,5 +1,5 @@
--- A bench file run and printed: a row, the rows, the start, the whole trace.
+-- A bench file run and shown: a line, a row, the rows, the whole trace.
+pub mod Line
 pub mod Row
 pub mod Rows
-pub mod Start
 pub mod Trace

@@ -1,16 +1,18 @@
--- A row of the script run, and its line behind the text before it (document 01): "row, kind, refusal or 0, A, B".
+-- A row of the script run, and what is shown of it behind the text before it (document 01): "row, kind, refusal or 0, A, B".
 use Prim.Native.Nat.{ℕ}
-use mathlib.Core.List.{List}
+use mathlib.Core.List.{List, []}
 use Rattle.bench.specs.Calls.{Desk}
 use Rattle.fields.specs.Bytes.{byteAt}
 use Rattle.benchfile.specs.Row.{rowOf}
 use Rattle.script.specs.Run.{Running, ran}
 use Rattle.script.specs.Row.{rowRun}
 use Rattle.append.specs.Sheet.{Sheet, sheet, puts}
-use Rattle.lines.specs.Line.{lineText}
+use Rattle.printout.specs.Line.{lineText}
 use Rattle.printout.specs.declared.row.Lined.{Lined}
+use Rattle.printout.specs.declared.row.Show.{Show}
+use Rattle.printout.specs.declared.row.Show.the-variants.{Nothing, Line}
 
--- what a row has come to, and the buffer with its line
+-- what a row has come to, and the buffer with what is shown of it
 pub record Shown : Type 0 where
   pub ran : Running
   pub out : Sheet
@@ -19,14 +21,19 @@ pub record Shown : Type 0 where
 abbrev pub shown : Lined → List ℕ → List ℕ → List ℕ → List ℕ → Shown
 shown r l h e out = record { ran = ran (r .ran) l h e; out = sheet out (r .used) }
 
--- the line of a row that came to r: its number in the script, its kind, and what it came to
-abbrev pub lineOf : ℕ → List ℕ → Running → List ℕ
-lineOf number row r = lineText number (byteAt row 0) (r .number) (r .a) (r .b)
+-- nothing for a page, a line for a trace
+unfoldable pub shownText : Show → ℕ → ℕ → ℕ → ℕ → ℕ → List ℕ
+shownText Nothing row kind number a b = []
+shownText Line row kind number a b = lineText row kind number a b
 
--- its line put behind the text
-abbrev pub withLine : ℕ → List ℕ → Sheet → Running → Shown
-withLine number row t r = record { ran = r; out = puts t (lineOf number row r) }
+-- what is shown of a row that came to r: its number in the script, its kind, and what it came to
+abbrev pub textOf : Show → ℕ → List ℕ → Running → List ℕ
+textOf show number row r = shownText show number (byteAt row 0) (r .number) (r .a) (r .b)
+
+-- that put behind the text
+abbrev pub withText : Show → ℕ → List ℕ → Sheet → Running → Shown
+withText show number row t r = record { ran = r; out = puts t (textOf show number row r) }
 
 -- the row of 8 bytes, run on a desk
-unfoldable pub rowShown : List ℕ → List ℕ → ℕ → Desk → Sheet → Shown
-rowShown rom row number d t = withLine number row t (rowRun rom (rowOf row) d)
+unfoldable pub rowShown : List ℕ → List ℕ → ℕ → Show → Desk → Sheet → Shown
+rowShown rom row number show d t = withText show number row t (rowRun rom (rowOf row) d)

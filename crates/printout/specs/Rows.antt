@@ -9,6 +9,7 @@ use Rattle.bench.specs.Calls.{Desk, desk}
 use Rattle.benchfile.specs.Row.{rowBytes}
 use Rattle.append.specs.Sheet.{Sheet, sheet}
 use Rattle.printout.specs.Row.{Shown, rowShown}
+use Rattle.printout.specs.declared.row.Show.{Show}
 use Rattle.printout.specs.declared.rows.Stand.{Stand}
 
 -- where a script stands: what is lent, the row to run next, the refusal of the last one or 0, the buffer
@@ -31,16 +32,16 @@ abbrev pub after : Standing → Shown → Standing
 after s o = record { desk = o .ran .desk; next = s .next + 1; number = o .ran .number; out = o .out }
 
 -- one row more, unless there is none, one was refused, or its line might have no room
-unfoldable pub stepped : List ℕ → List ℕ → Standing → Standing
-stepped rom script s =
+unfoldable pub stepped : List ℕ → List ℕ → Show → Standing → Standing
+stepped rom script show s =
     pick (leb (length script / 8) (s .next)) s
     (pick (eqb (s .number) 0)
     (pick (leb (s .out .at + 105) (length (s .out .text)))
-    (after s (rowShown rom (rowBytes script (s .next)) (s .next + 1) (s .desk) (s .out)))
+    (after s (rowShown rom (rowBytes script (s .next)) (s .next + 1) show (s .desk) (s .out)))
     s)
     s)
 
 -- n such steps
-unfoldable pub steps : List ℕ → List ℕ → ℕ → Standing → Standing
-steps rom script zero s = s
-steps rom script (suc n) s = stepped rom script (steps rom script n s)
+unfoldable pub steps : List ℕ → List ℕ → Show → ℕ → Standing → Standing
+steps rom script show zero s = s
+steps rom script show (suc n) s = stepped rom script show (steps rom script show n s)

@@ -1,4 +1,5 @@
-// What the trace program prints for a bench file: its check, its rows run one by one, and their lines.
+// The rows of a bench file one by one, and what is shown of them: nothing for a page, document 01's lines for a trace.
+pub mod line;
+pub mod output;
 pub mod row;
 pub mod rows;
-pub mod start;

@@ -1,23 +1,47 @@
-// A script row run on a bench, with its line.
+// A script row run on a bench, with what is shown of it.
 ghost use mathlib.Core.Path.{_≡_};
 ghost use denote.Ref.{now};
 ghost use Rattle.bench.specs.Calls.{desk};
-ghost use Rattle.append.specs.Sheet.{sheet};
-ghost use Rattle.printout.specs.Row.{shown, rowShown};
+ghost use Rattle.append.specs.Sheet.{sheet, puts};
+ghost use Rattle.printout.specs.Row.{shownText, shown, rowShown};
+use crate::line::append_line;
 use bench::Bench;
 use benchfile::row::row_of;
 use fields::word::byte;
-use lines::line::append_line;
 use script::repeat::Ran;
 use script::row::run_row;
 
-// What a row has come to, and how many bytes of the buffer are text with its line.
+// What is shown of a row.
+pub enum Show {
+    Nothing,
+    Line,
+}
+
+// What a row has come to, and how many bytes of the buffer are text with what is shown of it.
 pub struct Lined {
     pub ran: Ran,
     pub used: usize,
 }
 
-// Runs the row of these 8 bytes and appends its line, with the row's number in the script.
+fn put_shown(
+    out: &mut [u8],
+    used: usize,
+    show: Show,
+    row: u64,
+    kind: u8,
+    number: u8,
+    a: u32,
+    b: u32,
+) -> usize
+    ensures { λ r. ⌜ sheet (now (out .exit)) r ≡ puts (sheet (now (out .entry)) used) (shownText show row kind number a b) ⌝ }
+{
+    match show {
+        Show::Nothing => used,
+        Show::Line => append_line(out, used, row, kind, number, a, b),
+    }
+}
+
+// Runs the row of these 8 bytes, the `number`th of its script.
 pub fn run_line(
     b: Bench,
     low: &mut [u8],
@@ -26,14 +50,15 @@ pub fn run_line(
     rom: &[u8],
     row: &[u8],
     number: u64,
+    show: Show,
     out: &mut [u8],
     used: usize,
 ) -> Lined
-    ensures { λ r. ⌜ shown r (now (low .exit)) (now (high .exit)) (now (entries .exit)) (now (out .exit)) ≡ rowShown (now (rom .entry)) (now (row .entry)) number (desk b (now (low .entry)) (now (high .entry)) (now (entries .entry))) (sheet (now (out .entry)) used) ⌝ }
+    ensures { λ r. ⌜ shown r (now (low .exit)) (now (high .exit)) (now (entries .exit)) (now (out .exit)) ≡ rowShown (now (rom .entry)) (now (row .entry)) number show (desk b (now (low .entry)) (now (high .entry)) (now (entries .entry))) (sheet (now (out .entry)) used) ⌝ }
 {
     let says = row_of(row);
     let kind = byte(row, 0);
     let r = run_row(b, low, high, entries, rom, says);
-    let end = append_line(out, used, number, kind, r.number, r.a, r.b);
+    let end = put_shown(out, used, show, number, kind, r.number, r.a, r.b);
     Lined { ran: r, used: end }
 }

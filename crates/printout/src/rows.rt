@@ -1,9 +1,10 @@
-// The rows of a script one by one, as many as a buffer takes the lines of.
+// The rows of a script one by one: for a page all of them, for a trace as many as a buffer takes the lines of.
 ghost use mathlib.Core.Path.{_≡_};
 ghost use Prim.Native.Nat.{_/_};
 ghost use denote.Ref.{now};
 ghost use lib.ListN.{length};
 ghost use Rattle.printout.specs.Rows.{standing, start, stepped, steps};
+use crate::row::Show;
 use crate::row::run_line;
 use append::has_room;
 use bench::Bench;
@@ -25,9 +26,10 @@ fn step(
     entries: &mut [u8],
     rom: &[u8],
     script: &[u8],
+    show: Show,
     out: &mut [u8],
 ) -> Stand
-    ensures { λ r. ⌜ standing r (now (low .exit)) (now (high .exit)) (now (entries .exit)) (now (out .exit)) ≡ stepped (now (rom .entry)) (now (script .entry)) (standing s (now (low .entry)) (now (high .entry)) (now (entries .entry)) (now (out .entry))) ⌝ }
+    ensures { λ r. ⌜ standing r (now (low .exit)) (now (high .exit)) (now (entries .exit)) (now (out .exit)) ≡ stepped (now (rom .entry)) (now (script .entry)) show (standing s (now (low .entry)) (now (high .entry)) (now (entries .entry)) (now (out .entry))) ⌝ }
 {
     let at = s.next;
     if script.len() / 8 <= at {
@@ -42,7 +44,18 @@ fn step(
         return s;
     }
     let b = s.bench;
-    let r = run_line(b, low, high, entries, rom, row, number as u64, out, s.used);
+    let r = run_line(
+        b,
+        low,
+        high,
+        entries,
+        rom,
+        row,
+        number as u64,
+        show,
+        out,
+        s.used,
+    );
     let ran = r.ran;
     let after = ran.bench;
     Stand {
@@ -53,8 +66,8 @@ fn step(
     }
 }
 
-// The rows from `first` on, their lines at the start of the buffer. A step that cannot go on changes nothing, so as many steps as
-// there are rows are enough.
+// The rows from `first` on, what is shown of them at the start of the buffer. A step that cannot go on changes nothing, so as many steps
+// as there are rows are enough; where nothing is shown they are all rows up to a refusal.
 pub fn run_rows(
     b: Bench,
     low: &mut [u8],
@@ -63,9 +76,10 @@ pub fn run_rows(
     rom: &[u8],
     script: &[u8],
     first: usize,
+    show: Show,
     out: &mut [u8],
 ) -> Stand
-    ensures { λ r. ⌜ standing r (now (low .exit)) (now (high .exit)) (now (entries .exit)) (now (out .exit)) ≡ steps (now (rom .entry)) (now (script .entry)) (length (now (script .entry)) / 8) (start b (now (low .entry)) (now (high .entry)) (now (entries .entry)) first (now (out .entry))) ⌝ }
+    ensures { λ r. ⌜ standing r (now (low .exit)) (now (high .exit)) (now (entries .exit)) (now (out .exit)) ≡ steps (now (rom .entry)) (now (script .entry)) show (length (now (script .entry)) / 8) (start b (now (low .entry)) (now (high .entry)) (now (entries .entry)) first (now (out .entry))) ⌝ }
 {
     let mut s = Stand {
         bench: b,
@@ -76,7 +90,7 @@ pub fn run_rows(
     let mut i = 0;
     while i < script.len() / 8 {
         let made = i + 1;
-        let after = step(s, low, high, entries, rom, script, out);
+        let after = step(s, low, high, entries, rom, script, show, out);
         s = after;
         i = made;
     }

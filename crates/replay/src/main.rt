@@ -2,13 +2,13 @@
 use append::number::decimal;
 use append::push_byte;
 use append::put;
-use console::output::write_text;
-use console::output::write_trace;
 use fields::part::part;
 use fields::word::four;
 use input::read_all;
 use libc::STDERR_FILENO;
 use libc::STDIN_FILENO;
+use printout::output::write_text;
+use printout::output::write_trace;
 
 fn cut_short() -> bool {
     io::write_all(STDERR_FILENO, b"the list is cut short\n");

@@ -1,6 +1,4 @@
--- A script run call by call with its lines: where it stands, where an operation came from, and what a step does.
-pub mod Origin
+-- A script run call by call.
+pub mod Call
 pub mod Stand
-pub mod Row
-pub mod Walk
-pub mod Steps
+pub mod Step

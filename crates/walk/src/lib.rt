@@ -1,5 +1,4 @@
-// A script run call by call, with the lines of docs/MOVES.md: what a step does and what it appends.
-pub mod origin;
-pub mod row;
+// A script run call by call, with no text: what a call is, what it answers and where the script then stands.
+pub mod call;
 pub mod stand;
-pub mod steps;
+pub mod step;

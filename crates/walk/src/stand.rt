@@ -1,21 +1,12 @@
 // Where a script stands.
 ghost use mathlib.Core.Path.{_≡_};
 ghost use Rattle.walk.specs.Stand.{up, onward, counted};
-use bench::Bench;
 
-// The row to run next, from 0; how many of its cycles are done, and how many of those were held.
+// The row to run next, from 0; how many of its calls were accepted, and how many of those were held.
 pub struct Stand {
     pub next: usize,
     pub done: u16,
     pub held: u16,
-}
-
-// With the bench, the refusal of the last call or 0, and how many bytes of the buffer are text.
-pub struct Walk {
-    pub bench: Bench,
-    pub stand: Stand,
-    pub number: u8,
-    pub used: usize,
 }
 
 fn up_by(n: u16, counts: bool) -> u16
@@ -27,11 +18,11 @@ fn up_by(n: u16, counts: bool) -> u16
     n
 }
 
-// One cycle more.
-pub fn count_cycle(s: Stand, held: bool) -> Stand
-    ensures { λ r. ⌜ r ≡ counted s held ⌝ }
+// One call more, by its refusal or 0 and whether it was held. A refused call is never held.
+pub fn count_call(s: Stand, number: u8, held: bool) -> Stand
+    ensures { λ r. ⌜ r ≡ counted s number held ⌝ }
 {
-    let done = up_by(s.done, true);
+    let done = up_by(s.done, number == 0);
     let more = up_by(s.held, held);
     Stand {
         next: s.next,
@@ -40,15 +31,16 @@ pub fn count_cycle(s: Stand, held: bool) -> Stand
     }
 }
 
-// After the last of `count` cycles the next row is `row`.
-pub fn go_on(s: Stand, row: usize, count: u16) -> Stand
-    ensures { λ r. ⌜ r ≡ onward s row count ⌝ }
+// After the last of `count` calls the next row comes.
+pub fn go_on(s: Stand, count: u16) -> Stand
+    ensures { λ r. ⌜ r ≡ onward s count ⌝ }
 {
     if s.done < count {
         return s;
     }
+    let next = std::num::wrapping_add_usize(s.next, 1);
     Stand {
-        next: row,
+        next: next,
         done: 0,
         held: 0,
     }

@@ -11,8 +11,8 @@ byte-requires c κs = tt
 run-row-requires : tie.Need-run-row-requires
 run-row-requires c κs = tt
 
-append-line-requires : tie.Need-append-line-requires
-append-line-requires c κs = tt
+put-shown-requires : tie.Need-put-shown-requires
+put-shown-requires c κs = tt
 
 same-length : tie.Need-same-length
 same-length c = c .before .before .before .before .before .before .before .before .before .before .run-row .kept .1 .0
@@ -24,10 +24,10 @@ same-length-3 : tie.Need-same-length-3
 same-length-3 c = c .before .before .before .before .before .before .before .before .before .before .run-row .kept .1 .1 .1 .0
 
 same-length-4 : tie.Need-same-length-4
-same-length-4 c = c .before .before .append-line .kept .0
+same-length-4 c = c .before .before .put-shown .kept .0
 
 returns : tie.Need-returns
-returns c = row-joined _ _ _ _ _ (c .before .before .before .before .before .before .before .before .before .before .before .before .before .before .before .row-of .ensures) (c .before .before .before .before .before .before .before .before .before .before .before .before .before .before .byte .ensures) (c .before .before .before .before .before .before .before .before .before .before .run-row .ensures) (c .before .before .append-line .ensures)
+returns c = row-joined _ _ _ _ _ _ (c .before .before .before .before .before .before .before .before .before .before .before .before .before .before .before .row-of .ensures) (c .before .before .before .before .before .before .before .before .before .before .before .before .before .before .byte .ensures) (c .before .before .before .before .before .before .before .before .before .before .run-row .ensures) (c .before .before .put-shown .ensures)
 
 pub run-line-spec : {M : Type 1} → statement M
 run-line-spec =
@@ -36,7 +36,7 @@ run-line-spec =
     row-of-requires
     byte-requires
     run-row-requires
-    append-line-requires
+    put-shown-requires
     same-length
     same-length-2
     same-length-3

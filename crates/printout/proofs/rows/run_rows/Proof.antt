@@ -11,12 +11,12 @@ use Rattle.printout.proofs.rows.run_rows.Statement.{statement}
 use Rattle.printout.proofs.rows.run_rows.Tie as tie
 
 abbrev Inv-loop : tie.InvT-loop
-Inv-loop low₀ high₀ entries₀ rom script first out₀ s₀ i₀ low high entries out s i =
+Inv-loop low₀ high₀ entries₀ rom script first show out₀ s₀ i₀ low high entries out s i =
     let first = standing s₀ low₀ high₀ entries₀ out₀ in
-    Going ((λ (x : Standing). x .out .text) ∷ slicesOf (λ (x : Standing). x .desk)) (λ k. steps rom script k first) (length script / 8) first (standing s low high entries out) i
+    Going ((λ (x : Standing). x .out .text) ∷ slicesOf (λ (x : Standing). x .desk)) (λ k. steps rom script show k first) (length script / 8) first (standing s low high entries out) i
 
 abbrev μ-loop : tie.MeasureT-loop
-μ-loop low₀ high₀ entries₀ rom script first out₀ s₀ i₀ low high entries out s i = length script / 8 - i
+μ-loop low₀ high₀ entries₀ rom script first show out₀ s₀ i₀ low high entries out s i = length script / 8 - i
 
 loop-holds : tie.Need-loop-holds Inv-loop μ-loop
 unfolding steps
@@ -33,7 +33,7 @@ loop-less c = omega (arith, (c .before .before .before .before .before .before .
 
 loop-again : tie.Need-loop-again Inv-loop μ-loop
 unfolding steps
-loop-again c = going-on (c .before .before .before .before .before .before .before .before .before .before .before .before .before .before .loop .inv) (c .before .before .before .before .before .before .before .before .before .before .before .before .before .loop-test .taken) (stepped _ _) (c .before .before .before .before .before .before .before .before .step .ensures) refl ((c .before .before .before .before .before .before .before .before .step .kept .1 .1 .1 .1 .1 .1 .0) also (c .before .before .before .before .before .before .before .before .step .kept .1 .0) also (c .before .before .before .before .before .before .before .before .step .kept .1 .1 .0) also (c .before .before .before .before .before .before .before .before .step .kept .1 .1 .1 .0) also tt)
+loop-again c = going-on (c .before .before .before .before .before .before .before .before .before .before .before .before .before .before .loop .inv) (c .before .before .before .before .before .before .before .before .before .before .before .before .before .loop-test .taken) (stepped _ _ _) (c .before .before .before .before .before .before .before .before .step .ensures) refl ((c .before .before .before .before .before .before .before .before .step .kept .1 .1 .1 .1 .1 .1 .1 .0) also (c .before .before .before .before .before .before .before .before .step .kept .1 .0) also (c .before .before .before .before .before .before .before .before .step .kept .1 .1 .0) also (c .before .before .before .before .before .before .before .before .step .kept .1 .1 .1 .0) also tt)
 
 same-length : tie.Need-same-length Inv-loop μ-loop
 same-length c = (c .before .loop .inv .lengths .1 .0)

@@ -5,7 +5,7 @@ use Rattle.printout.proofs.rows.step.Statement.{statement}
 use Rattle.printout.proofs.rows.step.Tie as tie
 
 returns : tie.Need-returns
-returns c = step-none _ _ _ (le-leb _ _ (c .if1 .taken))
+returns c = step-none _ _ _ _ (le-leb _ _ (c .if1 .taken))
 
 add-number : tie.Need-add-number
 add-number c = omega (arith, (c .if1 .left))
@@ -17,13 +17,13 @@ part-requires : tie.Need-part-requires
 part-requires c κs = tt
 
 returns-2 : tie.Need-returns-2
-returns-2 c = step-refused _ _ _ (lt-leb _ _ (c .before .before .before .if1 .left)) (ne-eqb _ _ (c .if2 .taken))
+returns-2 c = step-refused _ _ _ _ (lt-leb _ _ (c .before .before .before .if1 .left)) (ne-eqb _ _ (c .if2 .taken))
 
 has-room-requires : tie.Need-has-room-requires
 has-room-requires c κs = tt
 
 returns-3 : tie.Need-returns-3
-returns-3 c = step-full _ _ _ (lt-leb _ _ (c .before .before .before .before .before .if1 .left)) (eq-eqb _ _ (c .before .before .if2 .left)) (c .before .has-room .ensures) (not-true _ (c .if3 .taken))
+returns-3 c = step-full _ _ _ _ (lt-leb _ _ (c .before .before .before .before .before .if1 .left)) (eq-eqb _ _ (c .before .before .if2 .left)) (c .before .has-room .ensures) (not-true _ (c .if3 .taken))
 
 run-line-requires : tie.Need-run-line-requires
 run-line-requires c κs = tt
@@ -38,10 +38,10 @@ same-length-3 : tie.Need-same-length-3
 same-length-3 c = (c .before .before .before .before .before .before .before .before .before .before .run-line .kept .1 .1 .1 .0)
 
 same-length-4 : tie.Need-same-length-4
-same-length-4 c = (c .before .before .before .before .before .before .before .before .before .before .run-line .kept .1 .1 .1 .1 .1 .1 .1 .0)
+same-length-4 c = (c .before .before .before .before .before .before .before .before .before .before .run-line .kept .1 .1 .1 .1 .1 .1 .1 .1 .0)
 
 returns-4 : tie.Need-returns-4
-returns-4 c = step-goes _ _ _ (lt-leb _ _ (c .before .before .before .before .before .before .before .before .before .before .before .before .before .before .before .before .before .before .before .before .before .if1 .left)) (eq-eqb _ _ (c .before .before .before .before .before .before .before .before .before .before .before .before .before .before .before .before .before .before .if2 .left)) (c .before .before .before .before .before .before .before .before .before .before .before .before .before .before .before .before .before .has-room .ensures) (not-false _ (c .before .before .before .before .before .before .before .before .before .before .before .before .before .before .before .before .if3 .left)) (c .before .before .before .before .before .before .before .before .before .before .before .before .before .before .before .before .before .before .before .before .part .ensures) (c .before .before .before .before .before .before .before .before .before .before .run-line .ensures)
+returns-4 c = step-goes _ _ _ _ (lt-leb _ _ (c .before .before .before .before .before .before .before .before .before .before .before .before .before .before .before .before .before .before .before .before .before .if1 .left)) (eq-eqb _ _ (c .before .before .before .before .before .before .before .before .before .before .before .before .before .before .before .before .before .before .if2 .left)) (c .before .before .before .before .before .before .before .before .before .before .before .before .before .before .before .before .before .has-room .ensures) (not-false _ (c .before .before .before .before .before .before .before .before .before .before .before .before .before .before .before .before .if3 .left)) (c .before .before .before .before .before .before .before .before .before .before .before .before .before .before .before .before .before .before .before .before .part .ensures) (c .before .before .before .before .before .before .before .before .before .before .run-line .ensures)
 
 pub step-spec : {M : Type 1} → statement M
 step-spec =

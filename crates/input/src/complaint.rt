@@ -1,0 +1,49 @@
+// What is wrong, in one line on standard error. `name` is the program's.
+use append::number::decimal;
+use append::put;
+use fields::part::part;
+use dump::page::signs;
+use libc::STDERR_FILENO;
+use wording::words;
+
+// `page: standard input: Is a directory`
+pub fn unread(name: &[u8]) {
+    let mut out = [0u8; 64];
+    let a = put(&mut out, 0, name);
+    let b = put(&mut out, a, b": standard input");
+    os::fail(part(&out, 0, b));
+}
+
+fn whose(out: &mut [u8], name: &[u8], row: usize) -> usize {
+    let a = put(out, 0, name);
+    if row == 0 {
+        return put(out, a, b": standard input");
+    }
+    let b = put(out, a, b": row ");
+    decimal(out, b, row as u64)
+}
+
+// `page: row 3: refusal 8: back with no operation kept`; row 0 is the file itself.
+pub fn refused(name: &[u8], row: usize, refusal: u8) {
+    let mut out = [0u8; 128];
+    let a = whose(&mut out, name, row);
+    let b = put(&mut out, a, b": refusal ");
+    let c = decimal(&mut out, b, refusal as u64);
+    let d = put(&mut out, c, b": ");
+    let e = words(&mut out, d, refusal);
+    let f = put(&mut out, e, b"\n");
+    io::write_all(STDERR_FILENO, part(&out, 0, f));
+}
+
+pub fn no_place(name: &[u8], word: &[u8]) {
+    let mut out = [0u8; 192];
+    let a = put(&mut out, 0, name);
+    let b = put(&mut out, a, b": `");
+    let c = signs(&mut out, b, word);
+    let d = put(
+        &mut out,
+        c,
+        b"`: expected a place from $7E:0000 to $7F:FFFF\n",
+    );
+    io::write_all(STDERR_FILENO, part(&out, 0, d));
+}

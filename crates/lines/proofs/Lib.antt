@@ -1,2 +1,0 @@
-pub mod Most
-pub mod Repeat

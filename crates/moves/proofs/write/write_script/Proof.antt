@@ -1,0 +1,88 @@
+use lib.Dec.{ltb}
+use lib.ListN.{length}
+use mathlib.Core.Bool.{and-eq-true-iff}
+use mathlib.Core.Path.{_≡_, refl, _∙_}
+use native.Mathlib.Omega.{arith}
+use borrow.Author.Tests.{ltb-true}
+use Prim.Native.Nat.{_-_}
+use Rattle.moves.proofs.write.write_script.Statement.{statement}
+use Rattle.moves.proofs.write.write_script.Tie as tie
+
+abbrev Inv-loop : tie.InvT-loop
+Inv-loop low₀ high₀ entries₀ origins₀ rom script out₀ only rows turns w₀ ok₀ going₀ turn₀ low high entries origins out w ok going turn =
+    (length low ≡ length low₀) × (length high ≡ length high₀) × (length entries ≡ length entries₀) × (length origins ≡ length origins₀)
+    × (length out ≡ length out₀)
+
+abbrev μ-loop : tie.MeasureT-loop
+μ-loop low₀ high₀ entries₀ origins₀ rom script out₀ only rows turns w₀ ok₀ going₀ turn₀ low high entries origins out w ok going turn =
+    turns - turn
+
+loop-holds : tie.Need-loop-holds Inv-loop μ-loop
+loop-holds c = (refl, refl, refl, refl, refl)
+
+add-made : tie.Need-add-made Inv-loop μ-loop
+add-made c =
+    let test = c .loop-test in
+    let l = c .before .loop in
+    let h = ltb-true (l .turn) 536870912 (and-eq-true-iff (ltb (l .turn) 536870912) (l .going) .0 (test .taken) .0) in
+    omega arith
+
+run-steps-requires : tie.Need-run-steps-requires Inv-loop μ-loop
+run-steps-requires c κs = tt
+
+part-requires : tie.Need-part-requires Inv-loop μ-loop
+part-requires c κs = tt
+
+write-all-requires : tie.Need-write-all-requires Inv-loop μ-loop
+write-all-requires c κs = tt
+
+loop-less : tie.Need-loop-less Inv-loop μ-loop
+loop-less c =
+    let test = c .before .before .before .before .before .before .before .before .before .before .before .before .before .before .before .before .before .before .before .before .before .before .before .loop-test in
+    let l = c .before .before .before .before .before .before .before .before .before .before .before .before .before .before .before .before .before .before .before .before .before .before .before .before .loop in
+    let h = ltb-true (l .turn) 536870912 (and-eq-true-iff (ltb (l .turn) 536870912) (l .going) .0 (test .taken) .0) in
+    omega arith
+
+loop-again : tie.Need-loop-again Inv-loop μ-loop
+loop-again c =
+    let made = c .before .before .before .before .before .before .before .before .before .before .before .before .before .before .before .before .before .run-steps in
+    let l = c .before .before .before .before .before .before .before .before .before .before .before .before .before .before .before .before .before .before .before .before .before .before .before .before .loop in
+    (made .kept .1 .0 ∙ l .inv .0, made .kept .1 .1 .0 ∙ l .inv .1, made .kept .1 .1 .1 .0 ∙ l .inv .2, made .kept .1 .1 .1 .1 .0 ∙ l .inv .3, made .kept .1 .1 .1 .1 .1 .1 .1 .0 ∙ l .inv .4)
+
+same-length : tie.Need-same-length Inv-loop μ-loop
+same-length c = c .before .loop .inv .0
+
+same-length-2 : tie.Need-same-length-2 Inv-loop μ-loop
+same-length-2 c = c .before .loop .inv .1
+
+same-length-3 : tie.Need-same-length-3 Inv-loop μ-loop
+same-length-3 c = c .before .loop .inv .2
+
+same-length-4 : tie.Need-same-length-4 Inv-loop μ-loop
+same-length-4 c = c .before .loop .inv .3
+
+same-length-5 : tie.Need-same-length-5 Inv-loop μ-loop
+same-length-5 c = c .before .loop .inv .4
+
+returns : tie.Need-returns Inv-loop μ-loop
+returns c = tt
+
+pub write-script-spec : {M : Type 1} → statement M
+write-script-spec =
+    tie.close
+    (tie.spec
+    Inv-loop
+    μ-loop
+    loop-holds
+    add-made
+    run-steps-requires
+    part-requires
+    write-all-requires
+    loop-less
+    loop-again
+    same-length
+    same-length-2
+    same-length-3
+    same-length-4
+    same-length-5
+    returns)

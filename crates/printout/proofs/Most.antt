@@ -1,0 +1,24 @@
+-- No line is longer than 105 bytes: five numbers of at most 20 digits, each with a byte after it.
+use Prim.Native.Nat.{ℕ, _≤_}
+use native.Mathlib.Omega.{arith}
+use lib.ListN.{length, length-append}
+use Rattle.append.proofs.Decimal.{most}
+use Rattle.printout.specs.Line.{lineText}
+use Rattle.printout.specs.Row.{shownText}
+use Rattle.printout.specs.declared.row.Show.{Show}
+use Rattle.printout.specs.declared.row.Show.the-variants.{Nothing, Line}
+
+pub line-most : (row kind number a b : ℕ) → length (lineText row kind number a b) ≤ 105
+unfolding lineText
+line-most row kind number a b =
+    let m₁ = most row in
+    let m₂ = most kind in
+    let m₃ = most number in
+    let m₄ = most a in
+    let m₅ = most b in
+    simp length-append (omega arith)
+
+pub shown-most : (show : Show) (row kind number a b : ℕ) → length (shownText show row kind number a b) ≤ 105
+unfolding shownText
+shown-most Nothing row kind number a b = omega arith
+shown-most Line row kind number a b = line-most row kind number a b

@@ -1,0 +1,69 @@
+// The trace of a bench file on standard output, whole lines in few writes: what a buffer holds goes out when no further line has room.
+use crate::line::append_line;
+use crate::row::Show;
+use crate::rows::run_rows;
+use bench::Bench;
+use fields::part::part;
+use libc::STDOUT_FILENO;
+use start::begin;
+
+// The first bytes of a buffer.
+pub fn write_text(out: &[u8], used: usize) -> bool {
+    io::write_all(STDOUT_FILENO, part(out, 0, used))
+}
+
+// All rows of a script. Each turn runs at least one, so as many turns as there are rows are enough.
+fn write_rows(
+    b: Bench,
+    low: &mut [u8],
+    high: &mut [u8],
+    entries: &mut [u8],
+    rom: &[u8],
+    script: &[u8],
+    out: &mut [u8],
+) -> bool {
+    let rows = script.len() / 8;
+    let mut bench = b;
+    let mut first = 0;
+    let mut ok = true;
+    let mut going = true;
+    let mut turn = 0;
+    while (turn < rows) & going {
+        let made = turn + 1;
+        let s = run_rows(
+            bench,
+            low,
+            high,
+            entries,
+            rom,
+            script,
+            first,
+            Show::Line,
+            out,
+        );
+        let after = s.bench;
+        ok = write_text(out, s.used);
+        bench = after;
+        first = s.next;
+        going = ok & (s.number == 0) & (first < rows);
+        turn = made;
+    }
+    ok
+}
+
+// Whether all that the trace program prints for a file could be written.
+pub fn write_trace(file: &[u8]) -> bool {
+    let mut low = [0u8; 65536];
+    let mut high = [0u8; 65536];
+    let mut entries = [0u8; 65536];
+    let mut out = [0u8; 4096];
+    let s = begin(file, &mut low, &mut high);
+    if s.number != 0 {
+        let used = append_line(&mut out, 0, 0, 0, s.number, 0, 0);
+        return write_text(&out, used);
+    }
+    let b = s.bench;
+    let rom = part(file, s.rom.at, s.rom.size);
+    let script = part(file, s.script.at, s.script.size);
+    write_rows(b, &mut low, &mut high, &mut entries, rom, script, &mut out)
+}

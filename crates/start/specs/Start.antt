@@ -1,0 +1,56 @@
+-- A bench file before its first row (document 01, "Bench file"): a broken file is refused by 11, bad bit cycles by 10; the record has
+-- 65,536 bytes; the fill is repeated over each bank.
+use Prim.Native.Nat.{ℕ}
+use mathlib.Core.List.{List}
+use lib.Dec.{eqb}
+use Rattle.common.specs.Pick.{pick}
+use Rattle.bench.specs.declared.Bench.{Bench}
+use Rattle.bench.specs.declared.operate.Answer.{Answer}
+use Rattle.bench.specs.Calls.{freshCall}
+use Rattle.bench.specs.Refusal.{alsoOf}
+use Rattle.fields.specs.Little.{field}
+use Rattle.benchfile.specs.File.{startOf, sizeOf, bodyOf, fileCheck}
+use Rattle.start.specs.Fill.{filled}
+use Rattle.start.specs.declared.Span.{Span}
+use Rattle.start.specs.declared.Started.{Started}
+
+-- where a section is in its file: its row of the contents
+abbrev pub spanOf : List ℕ → ℕ → Span
+spanOf f k = record { at = startOf f k; size = sizeOf f k }
+
+-- no part of a file
+abbrev pub nowhere : Span
+nowhere = record { at = 0; size = 0 }
+
+-- what a refused file leaves to run: nothing
+abbrev pub halted : ℕ → Bench → Started
+halted n b = record { number = n; bench = b; rom = nowhere; script = nowhere }
+
+-- a file that can be run
+abbrev pub ready : List ℕ → Bench → Started
+ready f b = record { number = 0; bench = b; rom = spanOf f 2; script = spanOf f 3 }
+
+-- what is made of a file, and both banks
+pub record Starting : Type 0 where
+  pub start : Started
+  pub low : List ℕ
+  pub high : List ℕ
+
+-- by its fields
+abbrev pub started : Started → List ℕ → List ℕ → Starting
+started s l h = record { start = s; low = l; high = h }
+
+-- fresh with the record's 65,536 bytes and the settings' bit cycles
+unfoldable pub madeFor : List ℕ → Answer
+madeFor f = freshCall 65536 (field 2 (bodyOf f 0) 0)
+
+-- why a file cannot be run, or 0: a broken file is refused before its bit cycles are looked at
+unfoldable pub refusalOf : List ℕ → ℕ
+refusalOf f = alsoOf (fileCheck f) (madeFor f .number)
+
+-- both banks filled, or left as they are where the file is refused
+unfoldable pub startRun : List ℕ → List ℕ → List ℕ → Starting
+startRun f l h =
+    let b = madeFor f .bench in
+    let n = refusalOf f in
+    pick (eqb n 0) (started (ready f b) (filled l (bodyOf f 1)) (filled h (bodyOf f 1))) (started (halted n b) l h)

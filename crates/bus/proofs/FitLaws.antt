@@ -13,7 +13,7 @@ use Rattle.registers.proofs.FitGroups.{fit-wmadd, fit-enables, fit-channels, fi
 use Rattle.registers.proofs.FitKept.{fit-write, fit-read-byte, fit-read}
 use Rattle.registers.proofs.FitParts.{fit-stepped}
 use Rattle.registers.specs.Channel.{noChannel}
-use Rattle.registers.specs.Fit.{FitChannel, FitIo}
+use Rattle.registers.proofs.Fit.{FitChannel, FitIo}
 use Rattle.common.specs.Width.{Byte, Word, Bytes}
 use Rattle.registers.specs.declared.Io.{Io}
 use Rattle.registers.specs.declared.channel.DmaChannel.{DmaChannel}
@@ -21,7 +21,7 @@ use Rattle.registers.specs.declared.read.IoRead.{IoRead}
 use Rattle.registers.specs.declared.wm_address.WmAddBank.{WmAddBank}
 use Rattle.registers.specs.declared.wm_address.WmAddBank.the-variants as wm
 use Rattle.wram.proofs.FitLaws.{peeked-fits, poked-fits, kept-fits, FitBanks, FitPlace}
-use Rattle.wram.specs.Ranges.{FitOld, OldsOk}
+use Rattle.wram.proofs.Ranges.{FitOld, OldsOk}
 use Rattle.bus.proofs.Adds.{Recorded}
 use Rattle.bus.specs.Access.{opened, dataStepped, ioWritten, registerRead}
 use Rattle.bus.specs.Route.{routeOf, wmPlace, placeOf}

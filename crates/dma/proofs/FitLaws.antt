@@ -15,7 +15,7 @@ use Rattle.hdma.specs.Engine.{DmaWorld}
 use Rattle.hdma.specs.declared.engine.DmaCore.{DmaCore}
 use Rattle.common.specs.Width.{Byte, Bytes}
 use Rattle.registers.specs.Groups.{withDmaChannel-das}
-use Rattle.state.specs.Fit.{FitProgress, FitDma}
+use Rattle.state.proofs.Fit.{FitProgress, FitDma}
 use Rattle.state.specs.declared.Dma.{Dma}
 use Rattle.state.specs.declared.DmaProgress.{DmaProgress}
 use Rattle.state.specs.declared.DmaProgress.the-variants.{Nothing, At}

@@ -12,7 +12,7 @@ use Rattle.bus.specs.View.{channelOf, mdmaenOf}
 use Rattle.hdma.proofs.Ranges.{init-ok, line-ok}
 use Rattle.hdma.specs.Engine.{DmaWorld, at, withState, withInit}
 use Rattle.hdma.specs.declared.engine.DmaCore.{DmaCore}
-use Rattle.state.specs.Ranges.{ProgressOk, DmaOk}
+use Rattle.state.proofs.Ranges.{ProgressOk, DmaOk}
 use Rattle.state.specs.declared.Dma.{Dma}
 use Rattle.state.specs.declared.DmaProgress.{DmaProgress}
 use Rattle.state.specs.declared.DmaProgress.the-variants.{Nothing, At}

@@ -10,7 +10,7 @@ use Rattle.common.proofs.AllLaws.{all-set, all-getD}
 use Rattle.common.proofs.TableLaws.{pick-elim}
 use Rattle.bus.proofs.FitLaws.{channel-fits, with-channel-fits, FitWorld}
 use Rattle.common.specs.Width.{Byte, Long, Bytes}
-use Rattle.state.specs.Fit.{FitHdma, FitDma}
+use Rattle.state.proofs.Fit.{FitHdma, FitDma}
 use Rattle.state.specs.declared.Dma.{Dma}
 use Rattle.state.specs.declared.HdmaChannelState.{HdmaChannelState}
 use Rattle.transfer.proofs.Adds.{sent-bytes}

@@ -5,7 +5,7 @@ use mathlib.Core.List.{List}
 use native.Mathlib.Omega.{arith}
 use lib.Dec.{eqb}
 use Rattle.common.proofs.TableLaws.{pick-elim}
-use Rattle.state.specs.Ranges.{DmaOk}
+use Rattle.state.proofs.Ranges.{DmaOk}
 use Rattle.state.specs.declared.Dma.{Dma}
 use Rattle.state.specs.declared.HdmaChannelState.{HdmaChannelState}
 use Rattle.transfer.proofs.Adds.{sent-bytes}

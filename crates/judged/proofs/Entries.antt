@@ -23,13 +23,13 @@ use Rattle.judged.specs.Tried.{Sizes, start}
 use Rattle.layout.specs.Layout.{capacity}
 use Rattle.machine.specs.PowerOn.{powerOnMachine}
 use Rattle.ranges.specs.Machine.{machineOk}
-use Rattle.state.specs.Fit.{FitMachine}
+use Rattle.state.proofs.Fit.{FitMachine}
 use Rattle.state.specs.declared.Machine.{Machine}
 use Rattle.wram.proofs.FitLaws.{no-olds-ok}
 use Rattle.wram.proofs.KeepLaws.{keep-grows}
 use Rattle.wram.specs.Banks.{banks}
 use Rattle.wram.specs.Olds.{noOlds, pushOld, keptAt}
-use Rattle.wram.specs.Ranges.{OldsOk}
+use Rattle.wram.proofs.Ranges.{OldsOk}
 use Rattle.wram.specs.declared.Old.{Old}
 use Rattle.wram.specs.declared.Olds.{Olds}
 use Rattle.wram.specs.declared.Place.the-variants.{Bank7E}

@@ -13,13 +13,13 @@ use Rattle.hdma.proofs.FitLaws.{FitDmaWorld}
 use Rattle.registers.proofs.FitGroups.{fit-pads}
 use Rattle.registers.proofs.FitKept.{fit-power-on}
 use Rattle.registers.proofs.FitParts.{fit-buttons}
-use Rattle.registers.specs.Fit.{FitIo}
+use Rattle.registers.proofs.Fit.{FitIo}
 use Rattle.common.specs.Width.{Word, Bytes}
 use Rattle.registers.specs.Write.{irqDisabled}
 use Rattle.registers.specs.declared.Io.{Io}
 use Rattle.signals.proofs.FitKept.{fit-nmi-flag, fit-timeup-flag, fit-hvbjoy, fit-auto-start, fit-auto-step}
 use Rattle.state.specs.Hdma.{noHdma}
-use Rattle.state.specs.Fit.{FitHdma, FitDma, FitBoard, FitMachine}
+use Rattle.state.proofs.Fit.{FitHdma, FitDma, FitBoard, FitMachine}
 use Rattle.state.specs.declared.Board.{Board}
 use Rattle.state.specs.declared.Dma.{Dma}
 use Rattle.state.specs.declared.Machine.{Machine}

@@ -21,16 +21,16 @@ use Rattle.machine.proofs.Adds.{cycle-recorded}
 use Rattle.machine.proofs.FitLaws.{machine-fits, cycle-fits}
 use Rattle.machine.proofs.Ranges.{undisturbed-ok, cycle-ok, cycle-olds}
 use Rattle.registers.proofs.FitGroups.{fit-pads, fit-ports}
-use Rattle.registers.specs.Fit.{FitPort, FitIo}
+use Rattle.registers.proofs.Fit.{FitPort, FitIo}
 use Rattle.common.specs.Width.{Byte, Word, Bytes}
 use Rattle.registers.specs.declared.Io.{Io}
 use Rattle.rewind.specs.Rules.{Op, cycle, read, write, pad, plug, answer, Typed, State, world, accessed, changed, obeyed}
-use Rattle.state.specs.Fit.{FitMachine}
-use Rattle.state.specs.Ranges.{MachineOk}
+use Rattle.state.proofs.Fit.{FitMachine}
+use Rattle.state.proofs.Ranges.{MachineOk}
 use Rattle.state.specs.declared.Machine.{Machine}
 use Rattle.wram.proofs.FitLaws.{no-olds-ok}
 use Rattle.wram.specs.Olds.{noOlds, putBack, backFrom}
-use Rattle.wram.specs.Ranges.{OldsOk}
+use Rattle.wram.proofs.Ranges.{OldsOk}
 use Rattle.wram.specs.declared.Olds.{Olds}
 
 pub record Good (s : State) : Type 0 where

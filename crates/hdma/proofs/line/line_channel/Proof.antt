@@ -46,7 +46,14 @@ same-length-4 : tie.Need-same-length-4
 same-length-4 c = search needs
 
 returns-3 : tie.Need-returns-3
-returns-3 c = line-sent _ _ _ (c .before .before .before .before .before .before .before .before .before .before .before .before .before .before .before .before .before .before .before .before .before .before .before .hdma-of .ensures) (c .before .before .before .before .before .before .before .before .before .before .before .before .before .before .before .before .before .before .before .before .before .before .if1 .left) (c .before .before .before .before .before .before .before .before .before .before .before .before .before .before .before .before .before .before .before .before .channel-of .ensures) (c .before .before .before .before .before .before .before .before .before .before .before .before .before .before .before .before .before .before .before .flag .ensures) (c .before .before .before .before .before .before .before .before .before .before .before .before .before .before .before .before .reload-entry .ensures) (c .before .before .before .before .before .before .before .before .before .before .before .before .before .before .if2 .left) (c .before .before .before .before .before .before .before .before .before .before .before .hdma-of2 .ensures) (c .count-line .ensures) (c .before .before .before .before .before .before .before .before .before .before .if3 .taken) (c .before .before .before .before .before .before .before .transfer-unit .ensures) (c .before .line-wait .ensures)
+returns-3 c =
+    let sent = c .before .before .before .before .before .before .before in
+    let due = sent .before .before .before in
+    let goes = due .before .before .before .before in
+    let read = goes .before .before in
+    let asked = read .before .before .before in
+    let on = asked .before .before .before in
+    line-sent _ _ _ (on .before .hdma-of .ensures) (on .if1 .left) (asked .before .channel-of .ensures) (asked .flag .ensures) (read .reload-entry .ensures) (goes .if2 .left) (due .before .hdma-of2 .ensures) (c .count-line .ensures) (due .if3 .taken) (sent .transfer-unit .ensures) (c .before .line-wait .ensures)
 
 line-wait-requires-2 : tie.Need-line-wait-requires-2
 line-wait-requires-2 c κs = search needs

@@ -40,7 +40,13 @@ same-length-2 : tie.Need-same-length-2
 same-length-2 c = search needs
 
 returns : tie.Need-returns
-returns c = cycle-by _ _ _ _ _ _ _ (c .before .before .before .before .before .before .before .before .before .before .before .before .before .before .before .before .before .before .is-frame .ensures) (c .before .before .before .before .before .before .before .before .before .before .before .before .before .before .before .before .before .settle .ensures) (c .before .before .before .before .before .before .before .before .before .before .before .before .before .before .before .before .nmi-line .ensures) (c .before .before .before .before .before .before .before .before .before .before .before .before .before .before .before .rises .ensures) (c .before .before .before .before .before .before .before .before .before .before .before .before .before .before .time-up .ensures) (c .before .before .before .before .before .before .before .before .before .before .before .before .before .opened-core .ensures) (c .before .before .before .before .before .before .before .before .before .before .before .before .hdmaen-of .ensures) (c .before .before .before .before .before .before .before .before .before .before .before .arm .ensures) (c .before .before .before .before .before .before .before .before .update-dma-cycles .ensures) (c .tick .ensures)
+returns c =
+    let held = c .before .before .before .before .before .before .before .before in
+    let armed = held .before .before .before in
+    let begun = armed .before .before in
+    let edge = begun .before .before in
+    let settled = edge .before .before in
+    cycle-by _ _ _ _ _ _ _ (settled .before .is-frame .ensures) (settled .settle .ensures) (edge .before .nmi-line .ensures) (edge .rises .ensures) (begun .before .time-up .ensures) (begun .opened-core .ensures) (armed .before .hdmaen-of .ensures) (armed .arm .ensures) (held .update-dma-cycles .ensures) (c .tick .ensures)
 
 pub cycle-spec : {M : Type 1} → statement M
 cycle-spec =

@@ -1,8 +1,8 @@
 // What is wrong, in one line on standard error. `name` is the program's.
 use append::number::decimal;
 use append::put;
-use fields::part::part;
 use dump::page::signs;
+use fields::part::part;
 use libc::STDERR_FILENO;
 use wording::words;
 

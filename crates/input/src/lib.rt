@@ -1,10 +1,10 @@
 // What a program is given: its input, read to its end, and the place that its argument names; and what is wrong with them.
 pub mod complaint;
 
-use fields::part::part;
 use complaint::no_place;
 use complaint::unread;
 use dump::place::place;
+use fields::part::part;
 use libc::ENAMETOOLONG;
 use libc::STDIN_FILENO;
 

@@ -1,7 +1,7 @@
 // Writes the page of work RAM that holds a place, after the bench file on standard input.
 use bench::page::page_look;
-use fields::part::part;
 use dump::page::dump_page;
+use fields::part::part;
 use input::complaint::refused;
 use input::place_given;
 use input::read_bench;

@@ -1,108 +1,169 @@
-# The lines that crate refusals must print, from document 01's table; nothing here looks at the program or at its output.
-# python3 oracle/refusals.py | cmp - crates/refusals/stdout
-out=[]
-M=2**64
-CALLS=['cycle','read','write','pad','plug','answer','back']
-words={0:', all in order ',1:', low bank of ',2:', high bank of ',3:", record as fresh's, of ",4:", record of 256, fresh's of ",5:", record of 512, fresh's of ",6:', ROM of ',
-7:', capacity 2, next slot ',8:', capacity 2, kept ',9:', bit cycles ',10:', pending countdown ',11:', reading bits ',12:', bit cycles 264, reading countdown ',
-13:', buttons of port 0 ',14:', buttons of port 1 ',15:', pad word of port 0 ',16:', pad word of port 1 ',17:', channel ',18:', wait ',19:', clock ',
-20:', bad in all numbers up to 6 from ',21:', event ',22:', clock 18446744073709551615, event ',23:', port ',24:', address $'}
-tries=[(0,0),(1,65535),(1,65536),(1,65537),(2,65535),(2,65536),(2,65537),(3,0),(3,255),(3,256),(3,512),(4,512),(5,256),(6,4194304),(6,4194305),
-(7,1),(7,2),(8,0),(8,1),(8,2),(8,3),(9,0),(9,1),(9,4096),(9,4097),(17,7),(17,8),(18,55),(18,56),
-(10,297),(10,298),(11,0),(11,1),(11,16),(11,17),(12,263),(12,264),(13,65520),(13,65528),(14,65520),(14,65521),(15,65520),(15,65528),(16,65520),(16,65521),
-(19,M-2),(19,M-1),(20,1),(20,2),(20,3),(20,4),(21,4),(21,5),(22,5),(23,1),(23,2)]+[(24,a) for a in (0x2133,0x2134,0x213F,0x2140,0x2143,0x2144)]
-def asked(call,g):
-    if g==6: return call!='back'
-    if g in (21,22): return call=='cycle'
-    if g==23: return call in('pad','plug')
-    if g==24: return call=='answer'
+#!/usr/bin/env -S python3 -B
+"""The tries of the program refusals, and the lines expected of it, from document 01's table; nothing here looks at the program or its output.
+
+    python3 oracle/refusals.py list > crates/refusals/stdin
+    python3 oracle/refusals.py > crates/refusals/stdout
+
+A try is a kind (0 a listed call as docs/CALLS.md has it, 1 fresh, 2 page look, 3 file check, 4 section look), its words, what is given, and
+the end of its line.
+"""
+import sys
+
+M = 2**64
+CALLS = ["cycle", "read", "write", "pad", "plug", "answer", "back"]
+WORDS = {
+    0: "all in order ", 1: "low bank of ", 2: "high bank of ", 3: "record as fresh's, of ", 4: "record of 256, fresh's of ",
+    5: "record of 512, fresh's of ", 6: "ROM of ", 7: "capacity 2, next slot ", 8: "capacity 2, kept ", 9: "bit cycles ",
+    10: "pending countdown ", 11: "reading bits ", 12: "bit cycles 264, reading countdown ", 13: "buttons of port 0 ",
+    14: "buttons of port 1 ", 15: "pad word of port 0 ", 16: "pad word of port 1 ", 17: "channel ", 18: "wait ", 19: "clock ",
+    20: "bad in all numbers up to 6 from ", 21: "event ", 22: f"clock {M - 1}, event ", 23: "port ", 24: "address $",
+}
+# what each try of an operation or of back is about, and its value
+TRIES = [
+    (0, 0), (1, 65535), (1, 65536), (1, 65537), (2, 65535), (2, 65536), (2, 65537), (3, 0), (3, 255), (3, 256), (3, 512), (4, 512), (5, 256),
+    (6, 4194304), (6, 4194305), (7, 1), (7, 2), (8, 0), (8, 1), (8, 2), (8, 3), (9, 0), (9, 1), (9, 4096), (9, 4097), (17, 7), (17, 8),
+    (18, 55), (18, 56), (10, 297), (10, 298), (11, 0), (11, 1), (11, 16), (11, 17), (12, 263), (12, 264), (13, 65520), (13, 65528),
+    (14, 65520), (14, 65521), (15, 65520), (15, 65528), (16, 65520), (16, 65521), (19, M - 2), (19, M - 1), (20, 1), (20, 2), (20, 3),
+    (20, 4), (21, 4), (21, 5), (22, 5), (23, 1), (23, 2), (24, 0x2133), (24, 0x2134), (24, 0x213F), (24, 0x2140), (24, 0x2143), (24, 0x2144),
+]
+
+
+def little(n, width):
+    return n.to_bytes(width, "little")
+
+
+def asked(call, about):
+    """Whether a call takes what a try is about."""
+    if about == 6:
+        return call != "back"
+    if about in (21, 22):
+        return call == "cycle"
+    if about == 23:
+        return call in ("pad", "plug")
+    if about == 24:
+        return call == "answer"
     return True
-def number(call,s):
-    # document 01's table, in number order, each call testing what it takes
-    if s['low']!=65536 or s['high']!=65536: return 1
-    if s['record']==0 or s['record']%256 or s['record']!=s['fresh']: return 2
-    if call!='back' and s['rom']>4194304: return 3
-    cap=s['fresh']//256
-    bc=s['bits']
-    ok=1<=bc<=4096
-    a=s['auto']
-    if a[0]=='pending': ok=ok and a[1]<=297
-    if a[0]=='reading': ok=ok and 1<=a[1]<=16 and a[2]<bc
-    ok=ok and all(x%16==0 for x in s['words'])
-    ok=ok and s['channel']<8 and s['wait']<=55
-    if not ok or s['slot']>=cap or s['kept']>cap: return 4
-    if call=='cycle' and s['event']>4: return 5
-    if call in('pad','plug') and s['port']>1: return 6
-    if call=='answer' and not (0x2134<=s['addr']<=0x213F or 0x2140<=s['addr']<=0x2143): return 6
-    if call=='cycle' and s['clock']==M-1: return 7
-    if call=='back' and s['kept']==0: return 8
-    return 0   # entries of the record are sound here, so never 9
-def end(n,accepted_changes=True):
-    return ': %d, %s'%(n,'all as it was' if n or not accepted_changes else 'changed')
-# fresh
-for l,b in [(0,264),(255,264),(256,264),(257,264),(512,264),(512,0),(512,1),(512,4096),(512,4097),(255,0)]:
-    n=2 if l==0 or l%256 else 10 if not 1<=b<=4096 else 0
-    out.append('fresh, record of %d, bit cycles %d: %d, bit cycles %d, record length %d, slot 0, kept 0'%(l,b,n,1 if n else b,0 if n else l))
-for call in CALLS:
-    for g,v in tries:
-        if not asked(call,g): continue
-        s=dict(low=65536,high=65536,record=512,fresh=512,rom=0,slot=0,kept=2,bits=264,auto=('idle',),words=[0,0,0,0],channel=0,wait=0,clock=0,event=0,port=0,addr=0x2134)
-        if g==1:s['low']=v
-        if g==2:s['high']=v
-        if g==3:s['record']=s['fresh']=v; s['kept']=v//256
-        if g==4:s['record']=256; s['fresh']=v
-        if g==5:s['fresh']=v; s['kept']=v//256
-        if g==6:s['rom']=v
-        if g==7:s['slot']=v
-        if g==8:s['kept']=v
-        if g==9:s['bits']=v
-        if g==10:s['auto']=('pending',v)
-        if g==11:s['auto']=('reading',v,0)
-        if g==12:s['auto']=('reading',16,v)
-        if 13<=g<=16:s['words'][g-13]=v
-        if g==17:s['channel']=v
-        if g==18:s['wait']=v
-        if g==19:s['clock']=v
-        if g==20:
-            s['event']=5;s['port']=2;s['addr']=0x2133;s['slot']=2
-            if v<=3:s['rom']=4194305
-            if v<=2:s['record']=255
-            if v<=1:s['high']=65535
-        if g==21:s['event']=v
-        if g==22:s['event']=v;s['clock']=M-1
-        if g==23:s['port']=v
-        if g==24:s['addr']=v
-        n=number(call,s)
-        out.append(call+words[g]+('%04x'%v if g==24 else str(v))+end(n))
-# back, newest entry's bytes: document 01's ranges of an entry
-def entry_ok(e):
-    le=lambda a,k:int.from_bytes(e[a:a+k],'little')
-    flag=lambda a:e[a]<=1
-    if e[0] not in(0x7e,0x7f): return False
-    kind,bits,cd,bc=e[34],e[35],le(36,4),le(57,2)
-    if not 1<=bc<=4096: return False
-    if kind==0:
-        if bits or cd: return False
-    elif kind==1:
-        if bits or cd>297: return False
-    elif kind==2:
-        if not 1<=bits<=16 or cd>=bc: return False
-    else: return False
-    for p in(40,46):
-        if not(flag(p) and flag(p+1)) or le(p+2,2)%16: return False
-    if le(52,2)%16 or le(54,2)%16 or not flag(56): return False
-    if e[59]>3 or not flag(60) or not flag(61): return False
-    if e[61]==0 and (e[62] or le(63,4)): return False
-    if e[62]>=8 or le(67,4)>55 or not flag(71) or not flag(72): return False
-    for c in range(8):
-        if not flag(74+3*c+1) or not flag(74+3*c+2): return False
-    n=e[222]
-    if n>4: return False
-    for i in range(4):
-        a=223+4*i
-        if i>=n and any(e[a:a+4]): return False
-        if le(a,3)>=131072: return False
-    return not any(e[239:256])
+
+
+def state(about, value):
+    """All that a call is given: everything in order, but for what the try is about."""
+    s = {"low": 65536, "high": 65536, "record": 512, "fresh": 512, "rom": 0, "slot": 0, "kept": 2, "bits": 264, "auto": (0, 0, 0),
+         "words": [0, 0, 0, 0], "channel": None, "wait": 0, "clock": 0, "event": 0, "port": 0, "addr": 0x2134}
+    named = {1: "low", 2: "high", 6: "rom", 7: "slot", 8: "kept", 9: "bits", 17: "channel", 18: "wait", 19: "clock", 21: "event", 22: "event",
+             23: "port", 24: "addr"}
+    if about in named:
+        s[named[about]] = value
+    if about == 3:
+        s["record"] = value
+    if about in (3, 4, 5):
+        s["fresh"] = value
+    if about in (3, 5):
+        s["kept"] = value // 256
+    if about == 4:
+        s["record"] = 256
+    if about == 10:
+        s["auto"] = (1, 0, value)
+    if about == 11:
+        s["auto"] = (2, value, 0)
+    if about == 12:
+        s["auto"] = (2, 16, value)
+    if 13 <= about <= 16:
+        s["words"][about - 13] = value
+    if about == 20:
+        s.update(event=5, port=2, addr=0x2133, slot=2)
+        s.update({"rom": 4194305} if value <= 3 else {})
+        s.update({"record": 255} if value <= 2 else {})
+        s.update({"high": 65535} if value <= 1 else {})
+    if about == 22:
+        s["clock"] = M - 1
+    return s
+
+
+def in_range(s):
+    kind, bits, countdown = s["auto"]
+    return (1 <= s["bits"] <= 4096 and (kind != 1 or countdown <= 297) and (kind != 2 or 1 <= bits <= 16 and countdown < s["bits"])
+            and all(word % 16 == 0 for word in s["words"]) and (s["channel"] or 0) < 8 and s["wait"] <= 55)
+
+
+def number(call, s):
+    """Document 01's table, in number order, each call testing what it takes. The newest entry is sound here, so never 9."""
+    capacity = s["fresh"] // 256
+    if s["low"] != 65536 or s["high"] != 65536:
+        return 1
+    if s["record"] == 0 or s["record"] % 256 or s["record"] != s["fresh"]:
+        return 2
+    if call != "back" and s["rom"] > 4194304:
+        return 3
+    if not in_range(s) or s["slot"] >= capacity or s["kept"] > capacity:
+        return 4
+    if call == "cycle" and s["event"] > 4:
+        return 5
+    if call in ("pad", "plug") and s["port"] > 1 or call == "answer" and not 0x2134 <= s["addr"] <= 0x2143:
+        return 6
+    if call == "cycle" and s["clock"] == M - 1:
+        return 7
+    if call == "back" and s["kept"] == 0:
+        return 8
+    return 0
+
+
+def power_on():
+    """An entry of the machine at power-on, with bit cycles 264."""
+    e = bytearray(256)
+    e[0] = 0x7E
+    e[5:12] = bytes([255] * 7)
+    e[12:15] = bytes([1, 255, 1])
+    e[22] = 2
+    e[40] = e[46] = 1
+    e[57:59] = little(264, 2)
+    e[98:194] = bytes([255] * 6 + [0] + [255] * 5) * 8
+    return e
+
+
+def image(s):
+    e = power_on()
+    e[34], e[35], e[36:40] = s["auto"][0], s["auto"][1], little(s["auto"][2], 4)
+    for place, word in zip((42, 48, 52, 54), s["words"]):
+        e[place:place + 2] = little(word, 2)
+    e[57:59] = little(s["bits"], 2)
+    if s["channel"] is not None:
+        e[61:63] = bytes([1, s["channel"]])
+    e[67:71] = little(s["wait"], 4)
+    e[214:222] = little(s["clock"], 8)
+    return e[:222]
+
+
+def listed(call, s, newest):
+    """The bytes of a listed call: every byte of both banks is $A5. Behind a back step stands the newest entry."""
+    slot = (s["slot"] - 1) % max(s["fresh"] // 256, 1)
+    first, word, last = {"cycle": (s["event"], 0, 3), "read": (0x7E, 0x1234, 0), "write": (0x7E, 0x1234, 0), "pad": (s["port"], 0x8000, 0),
+                         "plug": (s["port"], 0, 0), "answer": (0, s["addr"], 7), "back": (slot, 0, 0)}[call]
+    counts = [s[name] for name in ("slot", "kept", "fresh", "record", "low", "high", "rom")]
+    head = image(s) + b"".join(little(n, 4) for n in counts) + bytes([CALLS.index(call) + 1, first]) + little(word, 2)
+    head += bytes([last, 1] + [0xA5] * 16) + little(0xA5000000, 4) * 8
+    return head + (newest if call == "back" else b"")
+
+
+def ended(n):
+    return f": {n}, {'all as it was' if n else 'changed'}\n"
+
+
+def operations():
+    for call in CALLS:
+        for about, value in TRIES:
+            if asked(call, about):
+                s = state(about, value)
+                words = f"{call}, {WORDS[about]}{value:04x}" if about == 24 else f"{call}, {WORDS[about]}{value}"
+                yield 0, words, listed(call, s, power_on()), ended(number(call, s))
+
+
+def fresh():
+    for length, bits in [(0, 264), (255, 264), (256, 264), (257, 264), (512, 264), (512, 0), (512, 1), (512, 4096), (512, 4097), (255, 0)]:
+        n = 2 if length == 0 or length % 256 else 10 if not 1 <= bits <= 4096 else 0
+        end = f": {n}, bit cycles {1 if n else bits}, record length {0 if n else length}, slot 0, kept 0\n"
+        yield 1, f"fresh, record of {length}, bit cycles {bits}", little(length, 4) + little(bits, 2), end
+
+
 # bytes of the newest entry, each with its place
 PATCHES = [
     [(0, 125)], [(0, 126)], [(0, 127)], [(0, 128)], [(34, 3)], [(34, 1), (36, 41), (37, 1)], [(34, 1), (36, 42), (37, 1)],
@@ -116,57 +177,101 @@ PATCHES = [
     [(222, 1), (223, 255), (224, 255), (225, 1)], [(222, 1), (225, 2)], [(223, 1)], [(226, 1)], [(222, 1), (226, 1)],
     [(222, 1), (230, 1)], [(222, 3), (238, 1)], [(222, 4), (238, 1)], [(239, 1)], [(255, 1)],
 ]
-for p in PATCHES:
-    e=bytearray(256)
-    # what of power-on the ranges speak of: bank $7E, pads plugged in, bit cycles 264
-    e[0]=0x7e; e[40]=1; e[46]=1; e[57]=8; e[58]=1
-    for a,v in p: e[a]=v
-    n=0 if entry_ok(e) else 9
-    out.append("back, newest entry's byte"+''.join(' %d=%d'%(a,v) for a,v in p)+end(n))
-# page look: the marks of the first and last page of each bank
-first={0:1,255:2,256:3,511:4}
-for l,h,p in [(65535,65536,0),(65537,65536,0),(65536,65535,0),(65536,65537,0),(65536,65536,0),(65536,65536,255),(65536,65536,256),(65536,65536,511),(65536,65536,512),(65536,65536,65535),(65535,65536,512)]:
-    n=1 if (l,h)!=(65536,65536) else 12 if p>511 else 0
-    part=', part of 0' if n else ', part of 256, first byte %d'%first[p]
-    out.append('page look, banks of %d and %d, page %d'%(l,h,p)+part+': %d'%n)
-# bench files
-def row_ok(r):
-    k=r[0]
-    cnt=r[1]+256*r[2]
-    if k==1: return cnt>=1 and r[4]<=3 and not any(r[5:])
-    if k==2: return not any(r[4:])
-    if k==3: return not any(r[5:])
-    if k==4: return not any(r[4:])
-    if k==5: return r[2]<=1 and not any(r[3:])
-    if k==6: return r[1]==0 and not any(r[5:])
-    if k==7: return cnt>=1 and not any(r[3:])
-    return False
-def check(f):
-    if not 32<=len(f)<=65536: return 11
-    rows=[(int.from_bytes(f[8*k:8*k+4],'little'),int.from_bytes(f[8*k+4:8*k+8],'little')) for k in range(4)]
-    at=32
-    for s_,n_ in rows:
-        if s_!=at: return 11
-        at+=n_
-    if at!=len(f) or rows[0][1]!=2 or not 1<=rows[1][1]<=4096: return 11
-    sc=f[rows[3][0]:]
-    if len(sc)%8: return 11
-    return 0 if all(row_ok(sc[i:i+8]) for i in range(0,len(sc),8)) else 11
-plans=[(a+(1,1,3,0,0)) for a in [(2,1,0,0),(1,1,0,0),(3,1,0,0),(2,0,0,0),(2,4096,0,0),(2,4097,0,0),(2,1,65501,0),(2,1,65502,0),(2,1,0,7),(2,1,0,8),(2,1,0,9)]]
-plans+=[(2,1,0,8)+r+(0,0) for r in [(0,1,0),(1,0,0),(1,1,0),(1,1,4),(7,0,0),(7,1,0),(7,1,1),(8,1,0)]]
-plans+=[(2,1,0,0,1,1,3)+x for x in [(1,0),(0,1),(0,4),(0,35)]]
-for k,(a,b,c,d,kind,count,flags,gap,missing) in enumerate(plans):
-    st=[32,32+a+gap]; st+=[st[1]+b]; st+=[st[2]+c]
-    f=bytearray(st[3]+d+9)
-    for i_,(x,y) in enumerate(zip(st,(a,b,c,d))):
-        f[8*i_:8*i_+4]=x.to_bytes(4,'little'); f[8*i_+4:8*i_+8]=y.to_bytes(4,'little')
-    if d: f[st[3]:st[3]+5]=bytes([kind,count,0,0,flags])
-    f=f[:st[3]+d-missing]
-    n=check(f)
-    out.append('file check, settings of %d, fill of %d, ROM of %d, script of %d, row %d %d 0 0 %d, gap of %d, missing %d: %d'%(a,b,c,d,kind,count,flags,gap,missing,n))
-    if k in(0,3):
-        for sec in(0,1,2,3,4,255):
-            m=11 if sec>3 else n
-            ln=0 if m else (a,b,c,d)[sec]
-            out.append('section look, section %d, part of %d: %d'%(sec,ln,m))
-print('\n'.join(out))
+
+
+def entry_in_range(e):
+    """Document 01's ranges of an entry."""
+    def at(place, width):
+        return int.from_bytes(e[place:place + width], "little")
+
+    kind, bits, countdown, cycles = e[34], e[35], at(36, 4), at(57, 2)
+    flags = [40, 41, 46, 47, 56, 60, 61, 71, 72] + [74 + 3 * c + k for c in range(8) for k in (1, 2)]
+    olds = [223 + 4 * i for i in range(4)]
+    return (e[0] in (0x7E, 0x7F) and 1 <= cycles <= 4096
+            and (kind == 0 and bits == 0 and countdown == 0 or kind == 1 and bits == 0 and countdown <= 297
+                 or kind == 2 and 1 <= bits <= 16 and countdown < cycles)
+            and all(e[place] <= 1 for place in flags) and all(at(place, 2) % 16 == 0 for place in (42, 48, 52, 54))
+            and e[59] <= 3 and (e[61] == 1 or e[62] == 0 and at(63, 4) == 0) and e[62] < 8 and at(67, 4) <= 55
+            and e[222] <= 4 and all(at(place, 3) < 131072 for place in olds) and not any(e[olds[0] + 4 * e[222]:239]) and not any(e[239:]))
+
+
+def entries():
+    for patch in PATCHES:
+        e = power_on()
+        for place, byte in patch:
+            e[place] = byte
+        words = "back, newest entry's byte" + "".join(f" {place}={byte}" for place, byte in patch)
+        yield 0, words, listed("back", state(0, 0), e), ended(0 if entry_in_range(e) else 9)
+
+
+def pages():
+    """The first and last page of each bank begin with a byte of their own."""
+    first = {0: 1, 255: 2, 256: 3, 511: 4}
+    banks = [(65535, 65536, 0), (65537, 65536, 0), (65536, 65535, 0), (65536, 65537, 0)]
+    for low, high, page in banks + [(65536, 65536, page) for page in (0, 255, 256, 511, 512, 65535)] + [(65535, 65536, 512)]:
+        n = 1 if (low, high) != (65536, 65536) else 12 if page > 511 else 0
+        part = "0" if n else f"256, first byte {first[page]}"
+        given = little(low, 4) + little(high, 4) + little(page, 2)
+        yield 2, f"page look, banks of {low} and {high}, page {page}", given, f", part of {part}: {n}\n"
+
+
+def row_formed(r):
+    count = r[1] + 256 * r[2]
+    zeros = {1: 5, 2: 4, 3: 5, 4: 4, 5: 3, 6: 5, 7: 3}
+    return (r[0] in zeros and not any(r[zeros[r[0]]:]) and (r[0] not in (1, 7) or count >= 1) and (r[0] != 1 or r[4] <= 3)
+            and (r[0] != 5 or r[2] <= 1) and (r[0] != 6 or r[1] == 0))
+
+
+def file_check(f):
+    if not 32 <= len(f) <= 65536:
+        return 11
+    rows = [(int.from_bytes(f[8 * k:8 * k + 4], "little"), int.from_bytes(f[8 * k + 4:8 * k + 8], "little")) for k in range(4)]
+    at = 32
+    for start, length in rows:
+        if start != at:
+            return 11
+        at += length
+    script = f[rows[3][0]:]
+    if at != len(f) or rows[0][1] != 2 or not 1 <= rows[1][1] <= 4096 or len(script) % 8:
+        return 11
+    return 0 if all(row_formed(script[i:i + 8]) for i in range(0, len(script), 8)) else 11
+
+
+# lengths of the sections; kind, count and flags of the script's first row; a gap before the fill, and bytes missing at the end
+LENGTHS = [(2, 1, 0, 0), (1, 1, 0, 0), (3, 1, 0, 0), (2, 0, 0, 0), (2, 4096, 0, 0), (2, 4097, 0, 0), (2, 1, 65501, 0), (2, 1, 65502, 0),
+           (2, 1, 0, 7), (2, 1, 0, 8), (2, 1, 0, 9)]
+ROWS = [(0, 1, 0), (1, 0, 0), (1, 1, 0), (1, 1, 4), (7, 0, 0), (7, 1, 0), (7, 1, 1), (8, 1, 0)]
+PLANS = ([lengths + (1, 1, 3, 0, 0) for lengths in LENGTHS] + [(2, 1, 0, 8) + row + (0, 0) for row in ROWS]
+         + [(2, 1, 0, 0, 1, 1, 3) + spoiled for spoiled in [(1, 0), (0, 1), (0, 4), (0, 35)]])
+
+
+def files():
+    for plan in PLANS:
+        lengths, (kind, count, flags), (gap, missing) = plan[:4], plan[4:7], plan[7:]
+        starts = [32, 32 + lengths[0] + gap]
+        starts += [starts[1] + lengths[1], starts[1] + lengths[1] + lengths[2]]
+        contents = b"".join(little(start, 4) + little(length, 4) for start, length in zip(starts, lengths))
+        row = bytes([kind, count, 0, 0, flags]) if lengths[3] else bytes(5)
+        size = starts[3] + lengths[3] - missing
+        n = file_check((contents + bytes(starts[3] - 32) + row + bytes(9))[:size])
+        given = contents + little(size, 4) + little(starts[3], 4) + row
+        words = "file check, settings of {}, fill of {}, ROM of {}, script of {}, row {} {} 0 0 {}, gap of {}, missing {}".format(*plan)
+        yield 3, words, given, f": {n}\n"
+        if plan in (PLANS[0], PLANS[3]):
+            for section in (0, 1, 2, 3, 4, 255):
+                refused = 11 if section > 3 else n
+                end = f", part of {0 if refused else lengths[section]}: {refused}\n"
+                yield 4, f"section look, section {section}", given + bytes([section]), end
+
+
+def main():
+    tries = [*fresh(), *operations(), *entries(), *pages(), *files()]
+    if sys.argv[1:] == ["list"]:
+        for kind, words, given, _ in tries:
+            sys.stdout.buffer.write(bytes([kind, len(words)]) + words.encode() + (given if kind == 0 else given.ljust(50, b"\0")))
+    else:
+        print("".join(words + end for _, words, _, end in tries), end="")
+
+
+if __name__ == "__main__":
+    main()

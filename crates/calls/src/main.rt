@@ -1,32 +1,19 @@
 // Carries out the listed calls on standard input and prints what each answers, a line a call (docs/CALLS.md).
-mod answer;
-mod carry;
-mod changes;
-mod lay;
-mod listed;
-mod text;
-
-use crate::answer::LINE;
-use crate::answer::answer;
-use crate::carry::up_to;
-use crate::lay::ROM;
-use crate::lay::lay_rom;
-use libc::STDIN_FILENO;
+use fields::part::part;
 use libc::STDOUT_FILENO;
+use listed::answer::LINE;
+use listed::lay::ROM;
+use listed::lay::lay_rom;
+use listed::next::next;
 
-// One call: its 304 bytes, and 256 more behind a back step. Says whether to go on.
+// One call. Says whether to go on.
 fn one(rom: &[u8]) -> bool {
-    let mut head = [0u8; 304];
-    if io::read_full(STDIN_FILENO, &mut head) < 304 {
+    let mut line = [0u8; LINE];
+    let told = next(rom, &mut line);
+    if told.end == 0 {
         return false;
     }
-    let mut newest = [0u8; 256];
-    if head[250] == 7 {
-        io::read_full(STDIN_FILENO, &mut newest);
-    }
-    let mut line = [0u8; LINE];
-    let end = answer(head, newest, rom, &mut line);
-    show(&line, end)
+    show(&line, told.end)
 }
 
 fn show(line: &[u8; LINE], end: usize) -> bool {
@@ -35,8 +22,7 @@ fn show(line: &[u8; LINE], end: usize) -> bool {
 
 // The whole line in one write.
 fn print(line: &[u8], end: usize) -> bool {
-    let n = up_to(end, line.len());
-    if io::write_all(STDOUT_FILENO, &line[0..n]) {
+    if io::write_all(STDOUT_FILENO, part(line, 0, end)) {
         return true;
     }
     os::fail(b"standard output");

@@ -1,17 +1,17 @@
 // The line of a listed call: its numbers, then whatever differs from what was lent.
-use crate::carry::Outcome;
-use crate::carry::lend;
-use crate::carry::up_to;
 use crate::changes::changes;
 use crate::changes::differ;
+use crate::form::Listed;
+use crate::form::Stand;
+use crate::form::listed_of;
+use crate::form::stand_of;
 use crate::lay::BANK;
 use crate::lay::RECORD;
 use crate::lay::lay_bank;
 use crate::lay::lay_record;
-use crate::listed::Listed;
-use crate::listed::bench_of;
-use crate::listed::image_of;
-use crate::listed::listed_of;
+use crate::made::Made;
+use crate::made::lend;
+use crate::made::up_to;
 use crate::text::number;
 use crate::text::spaced;
 use append::number::hex_byte;
@@ -19,35 +19,52 @@ use append::number::hex_word;
 use append::number::hexes;
 use append::push_byte;
 use append::put;
-use bench::Bench;
 use bench::page::page_look;
 use bus::access::Access;
 use bus::access::Log;
-use image::entry_bytes;
-use wram::no_olds;
+use layout::ENTRY_SIZE;
 
 // The longest line that there is room for.
 pub const LINE: usize = 16384;
 
-// Call, number, held, edge, byte and cost, each in two digits.
-fn numbers(line: &mut [u8], kind: u8, o: Outcome) -> usize {
-    let a = hex_byte(line, 0, kind);
-    let b = spaced(line, a, o.number);
-    let c = spaced(line, b, o.held as u8);
-    let d = spaced(line, c, o.edge as u8);
-    let e = spaced(line, d, o.byte);
-    spaced(line, e, o.cost)
+// The number got; whether all stayed as it was, and the call said nothing else; the line's length.
+pub struct Told {
+    pub number: u8,
+    pub still: bool,
+    pub end: usize,
 }
 
-// Next slot, kept and record length, and the bytes of the image that are new.
-fn machine(line: &mut [u8], at: usize, image: [u8; 256], b: Bench) -> usize {
-    let x = number(line, at, b.slot);
-    let y = number(line, x, b.kept);
-    let z = number(line, y, b.length);
-    let m = b.machine;
-    let olds = no_olds();
-    let after = entry_bytes(m, olds);
-    changes(line, z, b'i', false, &image, &after)
+// Call, number, held, edge, byte and cost, each in two digits.
+fn numbers(line: &mut [u8], kind: u8, n: [u8; 5]) -> usize {
+    let a = hex_byte(line, 0, kind);
+    let b = spaced(line, a, n[0]);
+    let c = spaced(line, b, n[1]);
+    let d = spaced(line, c, n[2]);
+    let e = spaced(line, d, n[3]);
+    spaced(line, e, n[4])
+}
+
+// Next slot, kept and record length.
+fn counts(line: &mut [u8], at: usize, c: [usize; 3]) -> usize {
+    let x = number(line, at, c[0]);
+    let y = number(line, x, c[1]);
+    number(line, y, c[2])
+}
+
+fn opening(line: &mut [u8], kind: u8, m: Made) -> usize {
+    let n = m.numbers;
+    let end = numbers(line, kind, n);
+    let after = m.after;
+    let c = after.counts;
+    counts(line, end, c)
+}
+
+// New bytes of the image.
+fn image(line: &mut [u8], at: usize, before: Stand, m: Made) -> usize {
+    let after = m.after;
+    let a = before.image;
+    let b = after.image;
+    changes(line, at, b'i', false, &a, &b)
 }
 
 // New bytes of a bank.
@@ -56,7 +73,14 @@ fn bank(line: &mut [u8], at: usize, name: u8, before: &[u8; BANK], after: &[u8; 
 }
 
 // A slot that was written: its number, and where it differs from the image before.
-fn part(line: &mut [u8], at: usize, n: u8, image: [u8; 256], before: &[u8], after: &[u8]) -> usize {
+fn part(
+    line: &mut [u8],
+    at: usize,
+    n: u8,
+    image: [u8; ENTRY_SIZE],
+    before: &[u8],
+    after: &[u8],
+) -> usize {
     if differ(before, after) {
         let a = put(line, at, b" e");
         let b = hex_byte(line, a, n);
@@ -66,24 +90,33 @@ fn part(line: &mut [u8], at: usize, n: u8, image: [u8; 256], before: &[u8], afte
 }
 
 // Slot `n` of the record.
-fn slot(line: &mut [u8], at: usize, n: u8, image: [u8; 256], before: &[u8], after: &[u8]) -> usize {
-    let a = n as usize * 256;
-    let e = a + 256;
-    if e <= before.len() {
-        if e <= after.len() {
-            return part(line, at, n, image, &before[a..e], &after[a..e]);
-        }
-    }
-    at
+fn slot(
+    line: &mut [u8],
+    at: usize,
+    n: u8,
+    image: [u8; ENTRY_SIZE],
+    before: &[u8],
+    after: &[u8],
+) -> usize {
+    let from = n as usize * ENTRY_SIZE;
+    part(
+        line,
+        at,
+        n,
+        image,
+        fields::part::part(before, from, ENTRY_SIZE),
+        fields::part::part(after, from, ENTRY_SIZE),
+    )
 }
 
 fn slots(
     line: &mut [u8],
     at: usize,
-    image: [u8; 256],
+    s: Stand,
     before: &[u8; RECORD],
     after: &[u8; RECORD],
 ) -> usize {
+    let image = s.image;
     let a = slot(line, at, 0, image, before, after);
     let b = slot(line, a, 1, image, before, after);
     let c = slot(line, b, 2, image, before, after);
@@ -123,6 +156,11 @@ fn accesses(line: &mut [u8], at: usize, log: Log) -> usize {
     end
 }
 
+fn logged(line: &mut [u8], at: usize, m: Made) -> usize {
+    let log = m.log;
+    accesses(line, at, log)
+}
+
 // The page that a page look hands back.
 fn look<'a>(
     line: &mut [u8],
@@ -148,29 +186,42 @@ fn looked<'a>(line: &mut [u8], at: usize, l: Listed, low: &'a [u8], high: &'a [u
     hexes(line, a, b"", bytes)
 }
 
-// The whole line; gives its length.
-pub fn answer(head: [u8; 304], newest: [u8; 256], rom: &[u8], line: &mut [u8; LINE]) -> usize {
+// All stayed where the line is bare of changes, the counts are those given, and there is no flag, byte or cost.
+fn weighed(m: Made, before: Stand, bare: bool, end: usize) -> Told {
+    let n = m.numbers;
+    let after = m.after;
+    let c = after.counts;
+    let given = before.counts;
+    let silent = (n[1] == 0) & (n[2] == 0) & (n[3] == 0) & (n[4] == 0);
+    let same = (c[0] == given[0]) & (c[1] == given[1]) & (c[2] == given[2]);
+    Told {
+        number: n[0],
+        still: bare & silent & same,
+        end: end,
+    }
+}
+
+// Makes the call, and writes its line.
+pub fn answer(head: &[u8], newest: &[u8], rom: &[u8], line: &mut [u8; LINE]) -> Told {
     let l = listed_of(head);
-    let image = image_of(head);
-    let b = bench_of(head);
+    let s = stand_of(head);
     let mut low = [0u8; BANK];
     let mut high = [0u8; BANK];
     let mut entries = [0u8; RECORD];
     lay_bank(&mut low, 0, head);
     lay_bank(&mut high, 1, head);
-    lay_record(&mut entries, l.kind, l.first, newest);
+    lay_record(&mut entries, l, newest);
     let low0 = low;
     let high0 = high;
     let entries0 = entries;
-    let o = lend(b, l, &mut low, &mut high, &mut entries, rom);
-    let after = o.bench;
-    let log = o.log;
-    let e1 = numbers(line, l.kind, o);
-    let e2 = machine(line, e1, image, after);
-    let e3 = bank(line, e2, b'l', &low0, &low);
-    let e4 = bank(line, e3, b'h', &high0, &high);
-    let e5 = slots(line, e4, image, &entries0, &entries);
-    let e6 = accesses(line, e5, log);
-    let e7 = look(line, e6, l, &low, &high);
-    push_byte(line, e7, b'\n')
+    let m = lend(s, l, &mut low, &mut high, &mut entries, rom);
+    let bare = opening(line, l.kind, m);
+    let e1 = image(line, bare, s, m);
+    let e2 = bank(line, e1, b'l', &low0, &low);
+    let e3 = bank(line, e2, b'h', &high0, &high);
+    let e4 = slots(line, e3, s, &entries0, &entries);
+    let e5 = logged(line, e4, m);
+    let e6 = look(line, e5, l, &low, &high);
+    let end = push_byte(line, e6, b'\n');
+    weighed(m, s, bare == e6, end)
 }

@@ -1,7 +1,7 @@
 use native.Mathlib.Omega.{arith}
 use Prim.Native.Nat.{_-_}
-use Rattle.calls.proofs.lay.lay_rom.Statement.{statement}
-use Rattle.calls.proofs.lay.lay_rom.Tie as tie
+use Rattle.listed.proofs.lay.lay_rom.Statement.{statement}
+use Rattle.listed.proofs.lay.lay_rom.Tie as tie
 
 abbrev Inv-loop : tie.InvT-loop
 Inv-loop rom₀ i₀ rom i = Unit {0}

@@ -1,12 +1,12 @@
 // The 304 bytes of a listed call: a machine's image, the numbers beside it, lengths lent, the call, the fill and patches.
 use bench::Bench;
-use fields::part::part;
 use benchfile::row::Row;
+use decode::machine_at;
+use fields::part::part;
+use fields::put;
 use fields::word::byte;
 use fields::word::four;
 use fields::word::two;
-use decode::machine_at;
-use fields::put;
 use layout::ENTRY_SIZE;
 
 // How many bytes a listed call has.

@@ -1,9 +1,9 @@
 // What a listed call is lent, laid out: banks of a fill with patches, a record of bytes $EE, the start of one long ROM.
 use crate::form::Listed;
 use fields::part::part;
+use fields::put;
 use fields::word::byte;
 use fields::word::four;
-use fields::put;
 use layout::ENTRY_SIZE;
 use start::fill::fill_bank;
 

@@ -7,10 +7,10 @@ use bench::operate::Answer;
 use bench::page::page_look;
 use bench::page::page_number;
 use fields::part::part;
+use fields::put;
 use fields::word::byte;
 use fields::word::four;
 use fields::word::two;
-use fields::put;
 
 // Record length and bit cycles are given. The line says the number, and bit cycles, record length, next slot and kept of what fresh gave.
 pub fn fresh_tried(given: &[u8]) -> bool {

@@ -14,9 +14,11 @@ pub record Running : Type 0 where
   pub b : ℕ
   pub desk : Desk
 
+-- the same, of what the code returns and the slices lent to it
 abbrev pub ran : Ran → List ℕ → List ℕ → List ℕ → Running
 ran r l h e = record { number = r .number; a = r .a; b = r .b; desk = desk (r .bench) l h e }
 
+-- a row before its first call
 abbrev pub start : Desk → Running
 start d = record { number = 0; a = 0; b = 0; desk = d }
 
@@ -24,9 +26,11 @@ start d = record { number = 0; a = 0; b = 0; desk = d }
 abbrev pub firstOf : ℕ → ℕ → ℕ
 firstOf i x = pick (eqb i 0) x 0
 
+-- the same for a flag
 abbrev pub firstFlag : ℕ → Bool → Bool
 firstFlag i x = pick (eqb i 0) x false
 
+-- one more where a call counts
 abbrev pub plusOne : ℕ → Bool → ℕ
 plusOne n counts = pick counts ((n + 1) % 2 ^ 32) n
 
@@ -44,6 +48,7 @@ cyclesRun rom event line timer zero d = start d
 cyclesRun rom event line timer (suc i) d =
     cycleStep rom (firstOf i event) (firstFlag i line) (firstFlag i timer) (cyclesRun rom event line timer i d)
 
+-- A counts the accepted back steps
 abbrev pub struck : Running → PlainOut → Running
 struck s o = record { number = o .number; a = plusOne (s .a) (eqb (o .number) 0); b = s .b; desk = o .desk }
 

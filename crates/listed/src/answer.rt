@@ -23,6 +23,7 @@ use bench::page::page_look;
 use bus::access::Access;
 use bus::access::Log;
 use layout::ENTRY_SIZE;
+use layout::IMAGE_SIZE;
 
 // The longest line that there is room for.
 pub const LINE: usize = 16384;
@@ -77,7 +78,7 @@ fn part(
     line: &mut [u8],
     at: usize,
     n: u8,
-    image: [u8; ENTRY_SIZE],
+    image: [u8; IMAGE_SIZE],
     before: &[u8],
     after: &[u8],
 ) -> usize {
@@ -94,7 +95,7 @@ fn slot(
     line: &mut [u8],
     at: usize,
     n: u8,
-    image: [u8; ENTRY_SIZE],
+    image: [u8; IMAGE_SIZE],
     before: &[u8],
     after: &[u8],
 ) -> usize {

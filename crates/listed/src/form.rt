@@ -7,7 +7,7 @@ use fields::put;
 use fields::word::byte;
 use fields::word::four;
 use fields::word::two;
-use layout::ENTRY_SIZE;
+use layout::IMAGE_SIZE;
 
 // How many bytes a listed call has.
 pub const HEAD: usize = 304;
@@ -39,12 +39,12 @@ pub fn listed_of(head: &[u8]) -> Listed {
 
 // A machine by its bytes: the image as an entry without old bytes has it; next slot, kept and record length.
 pub struct Stand {
-    pub image: [u8; ENTRY_SIZE],
+    pub image: [u8; IMAGE_SIZE],
     pub counts: [usize; 3],
 }
 
 pub fn stand_of(head: &[u8]) -> Stand {
-    let mut e = [0u8; ENTRY_SIZE];
+    let mut e = [0u8; IMAGE_SIZE];
     put(&mut e, 0, part(head, 0, 222));
     let slot = four(head, 222) as usize;
     let kept = four(head, 226) as usize;

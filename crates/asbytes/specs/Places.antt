@@ -1,23 +1,18 @@
 -- Where the machine's bytes are (docs/PLAYER.md): its image without old bytes, then the numbers beside it.
 use Prim.Native.Nat.{ℕ, _+_}
-use mathlib.Core.Bool.{false}
 use mathlib.Core.List.{List, [], _∷_}
-use Rattle.fields.specs.Table.{Place, taken}
+use Rattle.fields.specs.Table.{Place, any, taken}
 use Rattle.layout.specs.Layout.{imageSize}
 
 -- the numbers beside the image: next slot, kept, record length
 pub data Beside : Type 0 where
   slot kept length : Beside
 
--- so many bytes behind the image, 8 bytes each
-abbrev behind : ℕ → Place
-behind k = record { start = imageSize + k; width = 8; flag = false }
-
--- where each stands
+-- where each stands behind the image, 8 bytes each
 abbrev pub beside : Beside → Place
-beside slot = behind 0
-beside kept = behind 8
-beside length = behind 16
+beside slot = record { start = imageSize; width = 8; kind = any }
+beside kept = record { start = imageSize + 8; width = 8; kind = any }
+beside length = record { start = imageSize + 16; width = 8; kind = any }
 
 -- all of them, in their order
 abbrev pub ofBeside : List Beside

@@ -46,7 +46,6 @@ use layout::UNIT;
 use layout::WAIT;
 use layout::WMADD_BANK;
 use layout::WRITTEN;
-use layout::number::four_at;
 use registers::wm_address::WmAddress;
 use registers::wm_address::inc;
 use transfer::bits::dec16;
@@ -65,6 +64,12 @@ use wram::keep_old;
 use wram::no_olds;
 use wram::peek;
 use wram::poke;
+
+const WRITTEN1: usize = WRITTEN + 1;
+
+const WRITTEN2: usize = WRITTEN + 2;
+
+const WRITTEN3: usize = WRITTEN + 3;
 
 // What a port of the B bus answers; where none does, the open bus.
 fn port_byte(e: [u8; IMAGE_SIZE], addr: u16) -> u8
@@ -141,7 +146,7 @@ fn wmadd_bytes(w: WmAddress) -> [u8; 3]
 fn next_written(e: [u8; IMAGE_SIZE], byte: u8) -> [u8; 4]
     ensures { λ r. ⌜ r ≡ writtenNext e byte ⌝ }
 {
-    let mut w = four_at(e, WRITTEN);
+    let mut w = [e[WRITTEN], e[WRITTEN1], e[WRITTEN2], e[WRITTEN3]];
     let base = base_at(&e);
     let port = bside_at(&e);
     if !flag(e[base], 0x80) & (0x2140 <= port) & (port < 0x2180) {

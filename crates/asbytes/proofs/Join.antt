@@ -1,16 +1,15 @@
 -- The steps of reading and writing the machine's bytes and a cycle's answer, joined.
-use Prim.Native.Nat.{ℕ, _+_, _*_}
+use Prim.Native.Nat.{ℕ}
 use mathlib.Core.Bool.{Bool, true, false, _&&_}
 use mathlib.Core.List.{List, _++_}
 use mathlib.Core.Path.{_≡_, refl, sym, ap, _∙_}
-use native.Mathlib.Omega.{arith}
 use lib.Dec.{eqb}
 use Rattle.common.specs.Pick.{pick}
 use Rattle.bench.specs.Ring.{bench}
 use Rattle.bench.specs.declared.Bench.{Bench}
 use Rattle.bus.specs.declared.access.Log.{Log}
 use Rattle.decode.specs.Decode.{num, machineAt}
-use Rattle.fields.specs.Little.{le, field}
+use Rattle.fields.specs.Little.{le}
 use Rattle.fields.specs.Patch.{patched}
 use Rattle.image.specs.Encode.{encode}
 use Rattle.image.specs.Groups.{byte, flag}
@@ -25,10 +24,6 @@ use Rattle.asbytes.specs.Places as at
 use Rattle.asbytes.specs.Places.{beside, slotAt, countAt, lengthAt}
 
 -- ---- the machine read
-
--- a number of eight bytes by its halves
-pub eight-halves : (l : List ℕ) (k : ℕ) → field 4 l (k + 4) * 4294967296 + field 4 l k ≡ field 8 l k
-eight-halves l k = let e : k + 1 + 1 + 1 + 1 ≡ k + 4 = omega arith in rw e (omega arith)
 
 module _ (e : List ℕ) {ok : Bool} {m : Machine} (p : ok ≡ entryOk e) (q : m ≡ machineAt e) where
   abbrev sound : Bool → Bool

@@ -1,10 +1,10 @@
--- Parts of a list, and numbers past its end.
+-- Parts of a list.
 use Prim.Native.Nat.{ℕ, zero, suc, _+_, _*_, _-_, _≤_, _<_}
 use mathlib.Core.List.{List, [], _∷_, _++_}
 use mathlib.Core.Path.{_≡_, refl, ap}
 use native.Mathlib.Numerals.{add-one}
 use native.Mathlib.Omega.{arith}
-use lib.ListN.{length, drop, length-drop, drop-of-length-le, List·getD-eq-default}
+use lib.ListN.{length, drop, length-drop, drop-of-length-le}
 use lib.Seq.{take-nil, take-all, take-at, drop-at, drop-cons}
 use Rattle.fields.specs.Little.{span, field}
 use Rattle.fields.specs.Bytes.{byteAt, partOf}
@@ -22,12 +22,6 @@ module _ (l : List ℕ) (k n : ℕ) where
   -- a part by its end
   pub part-to : partOf l k (k + n - k) ≡ partOf l k n
   part-to = let e : k + n - k ≡ n = omega arith in rw e
-
-pub field-none : (n : ℕ) (l : List ℕ) (k : ℕ) → length l ≤ k → field n l k ≡ 0
-field-none zero l k h = refl
-field-none (suc n) l k h =
-    let next : field n l (k + 1) ≡ 0 = field-none n l (k + 1) (omega arith) in
-    rw (List·getD-eq-default l 0 h, next)
 
 -- a number of four bytes by its halves
 pub four-halves : (l : List ℕ) (k : ℕ) → field 2 l (k + 2) * 65536 + field 2 l k ≡ field 4 l k

@@ -17,18 +17,6 @@ abbrev μ-loop : tie.MeasureT-loop
 loop-holds : tie.Need-loop-holds Inv-loop μ-loop
 loop-holds c = (refl, refl)
 
-shared-slice-read-byte : tie.Need-shared-slice-read-byte Inv-loop μ-loop
-shared-slice-read-byte c = omega arith
-
-push-byte-requires : tie.Need-push-byte-requires Inv-loop μ-loop
-push-byte-requires c κs = tt
-
-add-i : tie.Need-add-i Inv-loop μ-loop
-add-i c = omega arith
-
-loop-less : tie.Need-loop-less Inv-loop μ-loop
-loop-less c = omega arith
-
 loop-again : tie.Need-loop-again Inv-loop μ-loop
 unfolding puts
 loop-again c = ((c .before .before .push-byte .kept .0) ∙ (c .before .before .before .before .before .before .loop .inv .0), (c .before .before .before .before .before .before .loop .inv .1) ∙ fold-next push _ _ 0 (c .before .before .before .before .before .loop-test .taken) (c .before .before .push-byte .ensures))
@@ -47,10 +35,10 @@ put-spec =
     Inv-loop
     μ-loop
     loop-holds
-    shared-slice-read-byte
-    push-byte-requires
-    add-i
-    loop-less
+    (λ c. omega arith)
+    (λ c κs. tt)
+    (λ c. omega arith)
+    (λ c. omega arith)
     loop-again
     same-length
     returns)

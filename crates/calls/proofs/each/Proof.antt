@@ -9,26 +9,5 @@ Inv-loop rom turns₀ turns = Unit {0}
 abbrev μ-loop : tie.MeasureT-loop
 μ-loop rom turns₀ turns = turns
 
-loop-holds : tie.Need-loop-holds Inv-loop μ-loop
-loop-holds c = tt
-
-one-requires : tie.Need-one-requires Inv-loop μ-loop
-one-requires c κs = tt
-
-sub-turns : tie.Need-sub-turns Inv-loop μ-loop
-sub-turns c = omega arith
-
-loop-less : tie.Need-loop-less Inv-loop μ-loop
-loop-less c = omega arith
-
-loop-again : tie.Need-loop-again Inv-loop μ-loop
-loop-again c = tt
-
-returns : tie.Need-returns Inv-loop μ-loop
-returns c = tt
-
-returns-2 : tie.Need-returns-2 Inv-loop μ-loop
-returns-2 c = tt
-
 pub each-spec : {M : Type 1} → statement M
-each-spec = tie.close (tie.spec Inv-loop μ-loop loop-holds one-requires sub-turns loop-less loop-again returns returns-2)
+each-spec = tie.close (tie.spec Inv-loop μ-loop (λ c. tt) (λ c κs. tt) (λ c. omega arith) (λ c. omega arith) (λ c. tt) (λ c. tt) (λ c. tt))

@@ -4,21 +4,6 @@ use borrow.Author.Needs.{needs}
 use Rattle.start.proofs.begin.Statement.{statement}
 use Rattle.start.proofs.begin.Tie as tie
 
-body-requires : tie.Need-body-requires
-body-requires c κs = search needs
-
-two-requires : tie.Need-two-requires
-two-requires c κs = search needs
-
-fresh-requires : tie.Need-fresh-requires
-fresh-requires c κs = search needs
-
-file-check-requires : tie.Need-file-check-requires
-file-check-requires c κs = search needs
-
-halt-requires : tie.Need-halt-requires
-halt-requires c κs = search needs
-
 returns : tie.Need-returns
 returns c =
     let body = c .before .before .before .before .before .before .body in
@@ -27,9 +12,6 @@ returns c =
     let file-check = c .before .before .file-check in
     let if1 = c .before .if1 in
     start-broken _ _ _ (body .ensures) (two .ensures) (fresh .ensures) (file-check .ensures) (ne-eqb _ _ (if1 .taken)) (c .halt .ensures)
-
-halt-requires-2 : tie.Need-halt-requires-2
-halt-requires-2 c κs = search needs
 
 returns-2 : tie.Need-returns-2
 returns-2 c =
@@ -40,27 +22,6 @@ returns-2 c =
     let if1 = c .before .before .before .if1 in
     let if2 = c .before .if2 in
     start-refused _ _ _ (body .ensures) (two .ensures) (fresh .ensures) (file-check .ensures) (eq-eqb _ _ (if1 .left)) (ne-eqb _ _ (if2 .taken)) (c .halt2 .ensures)
-
-body-requires-2 : tie.Need-body-requires-2
-body-requires-2 c κs = search needs
-
-fill-bank-requires : tie.Need-fill-bank-requires
-fill-bank-requires c κs = search needs
-
-fill-bank-requires-2 : tie.Need-fill-bank-requires-2
-fill-bank-requires-2 c κs = search needs
-
-section-span-requires : tie.Need-section-span-requires
-section-span-requires c κs = search needs
-
-section-span-requires-2 : tie.Need-section-span-requires-2
-section-span-requires-2 c κs = search needs
-
-same-length : tie.Need-same-length
-same-length c = search needs
-
-same-length-2 : tie.Need-same-length-2
-same-length-2 c = search needs
 
 returns-3 : tie.Need-returns-3
 returns-3 c =
@@ -80,19 +41,19 @@ pub begin-spec : {M : Type 1} → statement M
 begin-spec =
     tie.close
     (tie.spec
-    body-requires
-    two-requires
-    fresh-requires
-    file-check-requires
-    halt-requires
+    (λ c κs. search needs)
+    (λ c κs. search needs)
+    (λ c κs. search needs)
+    (λ c κs. search needs)
+    (λ c κs. search needs)
     returns
-    halt-requires-2
+    (λ c κs. search needs)
     returns-2
-    body-requires-2
-    fill-bank-requires
-    fill-bank-requires-2
-    section-span-requires
-    section-span-requires-2
-    same-length
-    same-length-2
+    (λ c κs. search needs)
+    (λ c κs. search needs)
+    (λ c κs. search needs)
+    (λ c κs. search needs)
+    (λ c κs. search needs)
+    (λ c. search needs)
+    (λ c. search needs)
     returns-3)

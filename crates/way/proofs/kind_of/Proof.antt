@@ -8,15 +8,6 @@ use borrow.Author.Needs.{needs}
 use Rattle.way.proofs.kind_of.Statement.{statement}
 use Rattle.way.proofs.kind_of.Tie as tie
 
-calm-at-requires : tie.Need-calm-at-requires
-calm-at-requires c κs = search needs
-
-turn-of-requires : tie.Need-turn-of-requires
-turn-of-requires c κs = search needs
-
-image-ok-requires : tie.Need-image-ok-requires
-image-ok-requires c κs = search needs
-
 returns : tie.Need-returns
 unfolding kindOf
 returns c = rw (sym ((c .before .before .before .before .before .calm-at .ensures)) ∙ (c .before .before .before .before .if1 .taken), sym ((c .before .image-ok .ensures)) ∙ (c .if3 .taken)) ((c .before .before .before .turn-of .ensures))
@@ -37,9 +28,9 @@ pub kind-of-spec : {M : Type 1} → statement M
 kind-of-spec =
     tie.close
     (tie.spec
-    calm-at-requires
-    turn-of-requires
-    image-ok-requires
+    (λ c κs. search needs)
+    (λ c κs. search needs)
+    (λ c κs. search needs)
     returns
     returns-2
     returns-3

@@ -5,18 +5,9 @@ use borrow.Author.Needs.{needs}
 use Rattle.way.proofs.turn_of.Statement.{statement}
 use Rattle.way.proofs.turn_of.Tie as tie
 
-waiting-at-requires : tie.Need-waiting-at-requires
-waiting-at-requires c κs = search needs
-
 returns : tie.Need-returns
 unfolding turnBy
 returns c = rw (sym ((c .before .waiting-at .ensures)) ∙ (c .if1 .taken)) refl
-
-due-at-requires : tie.Need-due-at-requires
-due-at-requires c κs = search needs
-
-plain-trip-requires : tie.Need-plain-trip-requires
-plain-trip-requires c κs = search needs
 
 returns-2 : tie.Need-returns-2
 unfolding turnBy
@@ -29,4 +20,4 @@ returns-3 c = rw (sym ((c .before .before .before .before .waiting-at .ensures))
 pub turn-of-spec : {M : Type 1} → statement M
 turn-of-spec =
     tie.close
-    (tie.spec waiting-at-requires returns due-at-requires plain-trip-requires returns-2 returns-3)
+    (tie.spec (λ c κs. search needs) returns (λ c κs. search needs) (λ c κs. search needs) returns-2 returns-3)

@@ -13,24 +13,6 @@ returns : tie.Need-returns
 unfolding wayOf
 returns c = rw (ne-eqb (length ((c .before .before .args .s .now))) machineSize ((c .if1 .taken))) refl
 
-length-at-requires : tie.Need-length-at-requires
-length-at-requires c κs = search needs
-
-slot-at-requires : tie.Need-slot-at-requires
-slot-at-requires c κs = search needs
-
-kept-at-requires : tie.Need-kept-at-requires
-kept-at-requires c κs = search needs
-
-plain-requires : tie.Need-plain-requires
-plain-requires c κs = search needs
-
-lent-ok-requires : tie.Need-lent-ok-requires
-lent-ok-requires c κs = search needs
-
-kind-of-requires : tie.Need-kind-of-requires
-kind-of-requires c κs = search needs
-
 returns-2 : tie.Need-returns-2
 unfolding wayOf
 returns-2 c = let lent = (c .before .before .lent-ok .ensures) ∙ (λ i. all (lentTests ((c .before .before .before .before .before .before .before .before .before .args .low)) ((c .before .before .before .before .before .before .before .before .before .args .high)) ((c .before .before .before .before .before .before .before .before .before .args .room)) ((c .before .before .before .before .before .before .before .before .before .args .rom)) ((c .before .before .before .before .before .before .length-at .ensures) i) ((c .before .before .before .before .before .slot-at .ensures) i) ((c .before .before .before .before .kept-at .ensures) i))) in rw (eq-eqb (length ((c .before .before .before .before .before .before .before .before .before .args .s .now))) machineSize ((c .before .before .before .before .before .before .before .if1 .left)), sym (λ i. (c .before .before .before .plain .ensures) i && lent i) ∙ (c .before .if2 .taken)) ((c .kind-of .ensures))
@@ -44,11 +26,11 @@ way-of-spec =
     tie.close
     (tie.spec
     returns
-    length-at-requires
-    slot-at-requires
-    kept-at-requires
-    plain-requires
-    lent-ok-requires
-    kind-of-requires
+    (λ c κs. search needs)
+    (λ c κs. search needs)
+    (λ c κs. search needs)
+    (λ c κs. search needs)
+    (λ c κs. search needs)
+    (λ c κs. search needs)
     returns-2
     returns-3)

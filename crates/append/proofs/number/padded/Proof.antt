@@ -3,24 +3,6 @@ use borrow.Author.Needs.{needs}
 use Rattle.append.proofs.number.padded.Statement.{statement}
 use Rattle.append.proofs.number.padded.Tie as tie
 
-decimal-requires : tie.Need-decimal-requires
-decimal-requires c κs = search needs
-
-spaces-requires : tie.Need-spaces-requires
-spaces-requires c κs = search needs
-
-array-share-prefix-digits : tie.Need-array-share-prefix-digits
-array-share-prefix-digits c = search needs
-
-slice-aggregate-put : tie.Need-slice-aggregate-put
-slice-aggregate-put c = search needs
-
-put-requires : tie.Need-put-requires
-put-requires c κs = search needs
-
-same-length : tie.Need-same-length
-same-length c = search needs
-
 returns : tie.Need-returns
 returns c =
     let at-put = c .before .before in
@@ -34,10 +16,10 @@ pub padded-spec : {M : Type 1} → statement M
 padded-spec =
     tie.close
     (tie.spec
-    decimal-requires
-    spaces-requires
-    array-share-prefix-digits
-    slice-aggregate-put
-    put-requires
-    same-length
+    (λ c κs. search needs)
+    (λ c κs. search needs)
+    (λ c. search needs)
+    (λ c. search needs)
+    (λ c κs. search needs)
+    (λ c. search needs)
     returns)

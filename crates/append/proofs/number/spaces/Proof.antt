@@ -17,15 +17,6 @@ abbrev μ-loop : tie.MeasureT-loop
 loop-holds : tie.Need-loop-holds Inv-loop μ-loop
 loop-holds c = (refl, refl)
 
-push-byte-requires : tie.Need-push-byte-requires Inv-loop μ-loop
-push-byte-requires c κs = tt
-
-add-i : tie.Need-add-i Inv-loop μ-loop
-add-i c = omega arith
-
-loop-less : tie.Need-loop-less Inv-loop μ-loop
-loop-less c = omega arith
-
 loop-again : tie.Need-loop-again Inv-loop μ-loop
 loop-again c = ((c .before .before .push-byte .kept .0) ∙ (c .before .before .before .before .before .loop .inv .0), (c .before .before .before .before .before .loop .inv .1) ∙ again-next _ _ _ _ (c .before .before .before .before .loop-test .taken) (c .before .before .push-byte .ensures))
 
@@ -42,9 +33,9 @@ spaces-spec =
     Inv-loop
     μ-loop
     loop-holds
-    push-byte-requires
-    add-i
-    loop-less
+    (λ c κs. tt)
+    (λ c. omega arith)
+    (λ c. omega arith)
     loop-again
     same-length
     returns)

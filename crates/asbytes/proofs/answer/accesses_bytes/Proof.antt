@@ -26,33 +26,6 @@ abbrev μ-loop : tie.MeasureT-loop
 loop-holds : tie.Need-loop-holds Inv-loop μ-loop
 loop-holds c = (omega arith, (nothing (replicate 55 0) 0, refl))
 
-mul-access-bytes : tie.Need-mul-access-bytes Inv-loop μ-loop
-mul-access-bytes c = omega arith
-
-array-copy-out-access-bytes : tie.Need-array-copy-out-access-bytes Inv-loop μ-loop
-array-copy-out-access-bytes c = omega arith
-
-access-bytes-requires : tie.Need-access-bytes-requires Inv-loop μ-loop
-access-bytes-requires c κs = search needs
-
-slice-aggregate-put : tie.Need-slice-aggregate-put Inv-loop μ-loop
-slice-aggregate-put c = search needs
-
-mul-put : tie.Need-mul-put Inv-loop μ-loop
-mul-put c = omega arith
-
-slice-aggregate-put-2 : tie.Need-slice-aggregate-put-2 Inv-loop μ-loop
-slice-aggregate-put-2 c = search needs
-
-put-requires : tie.Need-put-requires Inv-loop μ-loop
-put-requires c κs = search needs
-
-add-i : tie.Need-add-i Inv-loop μ-loop
-add-i c = omega arith
-
-loop-less : tie.Need-loop-less Inv-loop μ-loop
-loop-less c = omega arith
-
 loop-again : tie.Need-loop-again Inv-loop μ-loop
 loop-again c = (omega arith, (row 5 (c .before .before .before .before .before .before .before .loop .i) (row-of (c .before .before .before .before .before .before .before .before .args .t1)) (λ k. refl) (c .before .before .before .before .before .before .before .loop .inv .1 .0) (c .before .put .ensures) (c .before .before .before .before .access-bytes .ensures) (omega arith), search needs))
 
@@ -67,14 +40,14 @@ accesses-bytes-spec =
     Inv-loop
     μ-loop
     loop-holds
-    mul-access-bytes
-    array-copy-out-access-bytes
-    access-bytes-requires
-    slice-aggregate-put
-    mul-put
-    slice-aggregate-put-2
-    put-requires
-    add-i
-    loop-less
+    (λ c. omega arith)
+    (λ c. omega arith)
+    (λ c κs. search needs)
+    (λ c. search needs)
+    (λ c. omega arith)
+    (λ c. search needs)
+    (λ c κs. search needs)
+    (λ c. omega arith)
+    (λ c. omega arith)
     loop-again
     returns)

@@ -1,47 +1,35 @@
 use mathlib.Core.Path.{sym}
-use Rattle.asbytes.proofs.Join.{eight-halves}
-use Rattle.fields.proofs.Parts.{field-none}
+use native.Mathlib.Numerals.{towards-numerals}
+use Rattle.fields.proofs.Number.{past-end}
 use borrow.Author.Needs.{needs}
 use Rattle.asbytes.proofs.bytes.eight.Statement.{statement}
 use Rattle.asbytes.proofs.bytes.eight.Tie as tie
 
 returns : tie.Need-returns
-returns c = sym (field-none 8 (c .before .before .args .s .now) _ (c .if1 .taken))
-
-four-requires : tie.Need-four-requires
-four-requires c κs = search needs
-
-add-four : tie.Need-add-four
-add-four c = search needs
-
-four-requires-2 : tie.Need-four-requires-2
-four-requires-2 c κs = search needs
-
-cast-result : tie.Need-cast-result
-cast-result c = search needs
-
-mul-result : tie.Need-mul-result
-mul-result c = search needs
-
-cast-result-2 : tie.Need-cast-result-2
-cast-result-2 c = search needs
-
-add-result : tie.Need-add-result
-add-result c = search needs
+returns c = sym (past-end 8 (c .before .before .args .s .now) _ (c .if1 .taken))
 
 returns-2 : tie.Need-returns-2
-returns-2 c = simp (c .four2 .ensures, c .before .four .ensures) (eight-halves (c .before .before .before .before .args .s .now) (c .before .before .before .before .args .at))
+returns-2 c = simp (c .join8 .ensures, c .before .byte8 .ensures, c .before .before .byte7 .ensures, c .before .before .before .byte6 .ensures, c .before .before .before .before .byte5 .ensures, c .before .before .before .before .before .byte4 .ensures, c .before .before .before .before .before .before .byte3 .ensures, c .before .before .before .before .before .before .before .byte2 .ensures, c .before .before .before .before .before .before .before .before .byte .ensures, towards-numerals)
 
 pub eight-spec : {M : Type 1} → statement M
 eight-spec =
     tie.close
     (tie.spec
     returns
-    four-requires
-    add-four
-    four-requires-2
-    cast-result
-    mul-result
-    cast-result-2
-    add-result
+    (λ c κs. search needs)
+    (λ c. search needs)
+    (λ c κs. search needs)
+    (λ c. search needs)
+    (λ c κs. search needs)
+    (λ c. search needs)
+    (λ c κs. search needs)
+    (λ c. search needs)
+    (λ c κs. search needs)
+    (λ c. search needs)
+    (λ c κs. search needs)
+    (λ c. search needs)
+    (λ c κs. search needs)
+    (λ c. search needs)
+    (λ c κs. search needs)
+    (λ c κs. search needs)
     returns-2)

@@ -8,21 +8,6 @@ use borrow.Author.Needs.{needs}
 use Rattle.asbytes.proofs.bytes.head_bytes.Statement.{statement}
 use Rattle.asbytes.proofs.bytes.head_bytes.Tie as tie
 
-slice-aggregate-put : tie.Need-slice-aggregate-put
-slice-aggregate-put c = search needs
-
-sub-put : tie.Need-sub-put
-sub-put c = search needs
-
-part-put-start : tie.Need-part-put-start
-part-put-start c = search needs
-
-part-put-end : tie.Need-part-put-end
-part-put-end c = search needs
-
-put-requires : tie.Need-put-requires
-put-requires c κs = search needs
-
 returns : tie.Need-returns
 unfolding headOf
 returns c = rw (le-leb imageSize (length (c .before .before .before .before .before .before .args .s .now)) (c .before .before .before .before .if1 .taken)) (taken (c .before .before .before .before .before .before .args .s .now) (replicate imageSize 0) (c .before .put .last .0) 0 imageSize refl (c .before .before .before .before .if1 .taken) (c .before .put .ensures))
@@ -32,4 +17,4 @@ unfolding headOf
 returns-2 c = rw (lt-leb imageSize (length (c .before .before .args .s .now)) (c .if1 .left)) refl
 
 pub head-bytes-spec : {M : Type 1} → statement M
-head-bytes-spec = tie.close (tie.spec slice-aggregate-put sub-put part-put-start part-put-end put-requires returns returns-2)
+head-bytes-spec = tie.close (tie.spec (λ c. search needs) (λ c. search needs) (λ c. search needs) (λ c. search needs) (λ c κs. search needs) returns returns-2)

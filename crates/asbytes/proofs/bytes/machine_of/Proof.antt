@@ -3,15 +3,6 @@ use borrow.Author.Needs.{needs}
 use Rattle.asbytes.proofs.bytes.machine_of.Statement.{statement}
 use Rattle.asbytes.proofs.bytes.machine_of.Tie as tie
 
-entry-ok-requires : tie.Need-entry-ok-requires
-entry-ok-requires c κs = search needs
-
-machine-at-requires : tie.Need-machine-at-requires
-machine-at-requires c κs = search needs
-
-array-read-if1 : tie.Need-array-read-if1
-array-read-if1 c = search needs
-
 returns : tie.Need-returns
 returns c = machine-by _ (c .before .before .entry-ok .ensures) (c .before .machine-at .ensures) (c .if1 .taken)
 
@@ -19,4 +10,4 @@ returns-2 : tie.Need-returns-2
 returns-2 c = broken-by _ (c .before .before .before .entry-ok .ensures) (c .before .before .machine-at .ensures) (c .before .if1 .left)
 
 pub machine-of-spec : {M : Type 1} → statement M
-machine-of-spec = tie.close (tie.spec entry-ok-requires machine-at-requires array-read-if1 returns returns-2)
+machine-of-spec = tie.close (tie.spec (λ c κs. search needs) (λ c κs. search needs) (λ c. search needs) returns returns-2)

@@ -3,30 +3,6 @@ use borrow.Author.Needs.{needs}
 use Rattle.assembler.proofs.bind.bind.Statement.{statement}
 use Rattle.assembler.proofs.bind.bind.Tie as tie
 
-fill-size-requires : tie.Need-fill-size-requires
-fill-size-requires c κs = search needs
-
-size-requires : tie.Need-size-requires
-size-requires c κs = search needs
-
-size-requires-2 : tie.Need-size-requires-2
-size-requires-2 c κs = search needs
-
-contents-requires : tie.Need-contents-requires
-contents-requires c κs = search needs
-
-put-requires : tie.Need-put-requires
-put-requires c κs = search needs
-
-put-requires-2 : tie.Need-put-requires-2
-put-requires-2 c κs = search needs
-
-put-requires-3 : tie.Need-put-requires-3
-put-requires-3 c κs = search needs
-
-same-length : tie.Need-same-length
-same-length c = search needs
-
 returns : tie.Need-returns
 returns c =
     let at-put2 = c .before .before .before .before .before .before in
@@ -38,12 +14,12 @@ pub bind-spec : {M : Type 1} → statement M
 bind-spec =
     tie.close
     (tie.spec
-    fill-size-requires
-    size-requires
-    size-requires-2
-    contents-requires
-    put-requires
-    put-requires-2
-    put-requires-3
-    same-length
+    (λ c κs. search needs)
+    (λ c κs. search needs)
+    (λ c κs. search needs)
+    (λ c κs. search needs)
+    (λ c κs. search needs)
+    (λ c κs. search needs)
+    (λ c κs. search needs)
+    (λ c. search needs)
     returns)

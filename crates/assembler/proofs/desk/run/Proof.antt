@@ -18,15 +18,6 @@ abbrev μ-loop : tie.MeasureT-loop
 loop-holds : tie.Need-loop-holds Inv-loop μ-loop
 loop-holds c = (refl, refl, refl, refl)
 
-shared-slice-read-c : tie.Need-shared-slice-read-c Inv-loop μ-loop
-shared-slice-read-c c = omega arith
-
-add-after : tie.Need-add-after Inv-loop μ-loop
-add-after c = omega arith
-
-step-requires : tie.Need-step-requires Inv-loop μ-loop
-step-requires c κs = tt
-
 loop-less : tie.Need-loop-less Inv-loop μ-loop
 loop-less c = omega (arith, (c .before .before .before .before .before .before .before .before .before .before .before .loop-test .taken))
 
@@ -57,9 +48,9 @@ run-spec =
     Inv-loop
     μ-loop
     loop-holds
-    shared-slice-read-c
-    add-after
-    step-requires
+    (λ c. omega arith)
+    (λ c. omega arith)
+    (λ c κs. tt)
     loop-less
     loop-again
     same-length

@@ -4,17 +4,8 @@ use borrow.Author.Needs.{needs}
 use Rattle.bench.proofs.fresh.fresh.Statement.{statement}
 use Rattle.bench.proofs.fresh.fresh.Tie as tie
 
-fresh-number-requires : tie.Need-fresh-number-requires
-fresh-number-requires c κs = search needs
-
-empty-bench-requires : tie.Need-empty-bench-requires
-empty-bench-requires c κs = search needs
-
 returns : tie.Need-returns
 returns c = fresh-refused _ _ (c .before .before .fresh-number .ensures) (ne-eqb _ _ (c .before .if1 .taken)) (c .empty-bench .ensures)
-
-empty-bench-requires-2 : tie.Need-empty-bench-requires-2
-empty-bench-requires-2 c κs = search needs
 
 returns-2 : tie.Need-returns-2
 returns-2 c = fresh-done _ _ (c .before .before .fresh-number .ensures) (eq-eqb _ _ (c .before .if1 .left)) (c .empty-bench2 .ensures)
@@ -22,4 +13,4 @@ returns-2 c = fresh-done _ _ (c .before .before .fresh-number .ensures) (eq-eqb 
 pub fresh-spec : {M : Type 1} → statement M
 fresh-spec =
     tie.close
-    (tie.spec fresh-number-requires empty-bench-requires returns empty-bench-requires-2 returns-2)
+    (tie.spec (λ c κs. search needs) (λ c κs. search needs) returns (λ c κs. search needs) returns-2)

@@ -6,24 +6,6 @@ use borrow.Author.Needs.{needs}
 use Rattle.bench.proofs.host.set_answer.Statement.{statement}
 use Rattle.bench.proofs.host.set_answer.Tie as tie
 
-cast-i : tie.Need-cast-i
-cast-i c = search needs
-
-element-write-ports : tie.Need-element-write-ports
-element-write-ports c = search needs
-
-with-io-requires : tie.Need-with-io-requires
-with-io-requires c κs = search needs
-
-cast-i-2 : tie.Need-cast-i-2
-cast-i-2 c = search needs
-
-element-write-ports-2 : tie.Need-element-write-ports-2
-element-write-ports-2 c = search needs
-
-with-io-requires-2 : tie.Need-with-io-requires-2
-with-io-requires-2 c κs = search needs
-
 returns : tie.Need-returns
 unfolding answerSet
 returns c = simp (inside 0x2134 0x2140 _ (c .before .before .if1 .left) (c .before .if2 .taken)) (c .with-io .ensures)
@@ -44,12 +26,12 @@ pub set-answer-spec : {M : Type 1} → statement M
 set-answer-spec =
     tie.close
     (tie.spec
-    cast-i
-    element-write-ports
-    with-io-requires
-    cast-i-2
-    element-write-ports-2
-    with-io-requires-2
+    (λ c. search needs)
+    (λ c. search needs)
+    (λ c κs. search needs)
+    (λ c. search needs)
+    (λ c. search needs)
+    (λ c κs. search needs)
     returns
     returns-2
     returns-3

@@ -4,19 +4,13 @@ use borrow.Author.Needs.{needs}
 use Rattle.bench.proofs.host.set_plug.Statement.{statement}
 use Rattle.bench.proofs.host.set_plug.Tie as tie
 
-with-io-requires : tie.Need-with-io-requires
-with-io-requires c κs = search needs
-
 returns : tie.Need-returns
 unfolding plugSet
 returns c = simp (eq-eqb _ _ (c .before .before .if1 .taken), c .with-io .ensures)
-
-with-io-requires-2 : tie.Need-with-io-requires-2
-with-io-requires-2 c κs = search needs
 
 returns-2 : tie.Need-returns-2
 unfolding plugSet
 returns-2 c = simp (ne-eqb _ _ (c .before .before .if1 .left), c .with-io2 .ensures)
 
 pub set-plug-spec : {M : Type 1} → statement M
-set-plug-spec = tie.close (tie.spec with-io-requires returns with-io-requires-2 returns-2)
+set-plug-spec = tie.close (tie.spec (λ c κs. search needs) returns (λ c κs. search needs) returns-2)

@@ -3,9 +3,6 @@ use borrow.Author.Needs.{needs}
 use Rattle.bench.proofs.refusal.address_number.Statement.{statement}
 use Rattle.bench.proofs.refusal.address_number.Tie as tie
 
-also-requires : tie.Need-also-requires
-also-requires c κs = search needs
-
 returns : tie.Need-returns
 unfolding addressNumber
 returns c = simp (c .before .if1 .taken, c .also .ensures)
@@ -15,4 +12,4 @@ unfolding addressNumber
 returns-2 c = simp (c .if1 .left)
 
 pub address-number-spec : {M : Type 1} → statement M
-address-number-spec = tie.close (tie.spec also-requires returns returns-2)
+address-number-spec = tie.close (tie.spec (λ c κs. search needs) returns returns-2)

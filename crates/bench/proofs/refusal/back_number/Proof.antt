@@ -4,9 +4,6 @@ use borrow.Author.Needs.{needs}
 use Rattle.bench.proofs.refusal.back_number.Statement.{statement}
 use Rattle.bench.proofs.refusal.back_number.Tie as tie
 
-also-requires : tie.Need-also-requires
-also-requires c κs = search needs
-
 returns : tie.Need-returns
 unfolding backNumber
 returns c = simp (eq-eqb _ _ (c .before .if1 .taken), c .also .ensures)
@@ -15,12 +12,9 @@ returns-2 : tie.Need-returns-2
 unfolding backNumber
 returns-2 c = simp (c .if2 .taken, ne-eqb _ _ (c .before .if1 .left))
 
-also-requires-2 : tie.Need-also-requires-2
-also-requires-2 c κs = search needs
-
 returns-3 : tie.Need-returns-3
 unfolding backNumber
 returns-3 c = simp (c .before .if2 .left, ne-eqb _ _ (c .before .before .if1 .left), c .also2 .ensures)
 
 pub back-number-spec : {M : Type 1} → statement M
-back-number-spec = tie.close (tie.spec also-requires returns returns-2 also-requires-2 returns-3)
+back-number-spec = tie.close (tie.spec (λ c κs. search needs) returns returns-2 (λ c κs. search needs) returns-3)

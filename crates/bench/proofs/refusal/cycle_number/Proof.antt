@@ -4,15 +4,9 @@ use borrow.Author.Needs.{needs}
 use Rattle.bench.proofs.refusal.cycle_number.Statement.{statement}
 use Rattle.bench.proofs.refusal.cycle_number.Tie as tie
 
-also-requires : tie.Need-also-requires
-also-requires c κs = search needs
-
 returns : tie.Need-returns
 unfolding cycleNumber
 returns c = simp (lt-ltb _ _ (c .before .if1 .taken), c .also .ensures)
-
-also-requires-2 : tie.Need-also-requires-2
-also-requires-2 c κs = search needs
 
 returns-2 : tie.Need-returns-2
 unfolding cycleNumber
@@ -23,4 +17,4 @@ unfolding cycleNumber
 returns-3 c = simp (ne-eqb _ _ (c .if2 .left), le-ltb _ _ (c .before .before .if1 .left))
 
 pub cycle-number-spec : {M : Type 1} → statement M
-cycle-number-spec = tie.close (tie.spec also-requires returns also-requires-2 returns-2 returns-3)
+cycle-number-spec = tie.close (tie.spec (λ c κs. search needs) returns (λ c κs. search needs) returns-2 returns-3)

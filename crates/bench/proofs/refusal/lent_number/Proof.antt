@@ -4,29 +4,17 @@ use borrow.Author.Needs.{needs}
 use Rattle.bench.proofs.refusal.lent_number.Statement.{statement}
 use Rattle.bench.proofs.refusal.lent_number.Tie as tie
 
-banks-off-requires : tie.Need-banks-off-requires
-banks-off-requires c κs = search needs
-
 returns : tie.Need-returns
 unfolding lentNumber
 returns c = simp (sym (c .before .banks-off .ensures) ∙ c .if1 .taken)
-
-record-off-requires : tie.Need-record-off-requires
-record-off-requires c κs = search needs
 
 returns-2 : tie.Need-returns-2
 unfolding lentNumber
 returns-2 c = simp (sym (c .before .record-off .ensures) ∙ c .if2 .taken, sym (c .before .before .before .banks-off .ensures) ∙ c .before .before .if1 .left)
 
-rom-off-requires : tie.Need-rom-off-requires
-rom-off-requires c κs = search needs
-
 returns-3 : tie.Need-returns-3
 unfolding lentNumber
 returns-3 c = simp (sym (c .before .rom-off .ensures) ∙ c .if3 .taken, sym (c .before .before .before .record-off .ensures) ∙ c .before .before .if2 .left, sym (c .before .before .before .before .before .banks-off .ensures) ∙ c .before .before .before .before .if1 .left)
-
-bench-off-requires : tie.Need-bench-off-requires
-bench-off-requires c κs = search needs
 
 returns-4 : tie.Need-returns-4
 unfolding lentNumber
@@ -40,12 +28,12 @@ pub lent-number-spec : {M : Type 1} → statement M
 lent-number-spec =
     tie.close
     (tie.spec
-    banks-off-requires
+    (λ c κs. search needs)
     returns
-    record-off-requires
+    (λ c κs. search needs)
     returns-2
-    rom-off-requires
+    (λ c κs. search needs)
     returns-3
-    bench-off-requires
+    (λ c κs. search needs)
     returns-4
     returns-5)

@@ -5,9 +5,6 @@ use borrow.Author.Needs.{needs}
 use Rattle.bench.proofs.refusal.look_number.Statement.{statement}
 use Rattle.bench.proofs.refusal.look_number.Tie as tie
 
-banks-off-requires : tie.Need-banks-off-requires
-banks-off-requires c κs = search needs
-
 returns : tie.Need-returns
 unfolding lookNumber
 returns c = simp (sym (c .before .banks-off .ensures) ∙ c .if1 .taken)
@@ -21,4 +18,4 @@ unfolding lookNumber
 returns-3 c = simp (le-ltb _ _ (c .if2 .left), sym (c .before .before .banks-off .ensures) ∙ c .before .if1 .left)
 
 pub look-number-spec : {M : Type 1} → statement M
-look-number-spec = tie.close (tie.spec banks-off-requires returns returns-2 returns-3)
+look-number-spec = tie.close (tie.spec (λ c κs. search needs) returns returns-2 returns-3)

@@ -4,9 +4,6 @@ use borrow.Author.Needs.{needs}
 use Rattle.bench.proofs.refusal.port_number.Statement.{statement}
 use Rattle.bench.proofs.refusal.port_number.Tie as tie
 
-also-requires : tie.Need-also-requires
-also-requires c κs = search needs
-
 returns : tie.Need-returns
 unfolding portNumber
 returns c = simp (lt-ltb _ _ (c .before .if1 .taken), c .also .ensures)
@@ -16,4 +13,4 @@ unfolding portNumber
 returns-2 c = simp (le-ltb _ _ (c .if1 .left))
 
 pub port-number-spec : {M : Type 1} → statement M
-port-number-spec = tie.close (tie.spec also-requires returns returns-2)
+port-number-spec = tie.close (tie.spec (λ c κs. search needs) returns returns-2)

@@ -5,9 +5,6 @@ use borrow.Author.Needs.{needs}
 use Rattle.bench.proofs.ring.slot_after.Statement.{statement}
 use Rattle.bench.proofs.ring.slot_after.Tie as tie
 
-add-next : tie.Need-add-next
-add-next c = search needs
-
 returns : tie.Need-returns
 returns c = simp (lt-ltb _ _ (c .if2 .taken), lt-ltb _ _ (c .before .if1 .taken))
 
@@ -21,4 +18,4 @@ returns-3 c =
     simp (le-ltb (a .slot + 1) (a .cap) h)
 
 pub slot-after-spec : {M : Type 1} → statement M
-slot-after-spec = tie.close (tie.spec add-next returns returns-2 returns-3)
+slot-after-spec = tie.close (tie.spec (λ c. search needs) returns returns-2 returns-3)

@@ -21,26 +21,11 @@ returns c = sym (ragged (c .before .before .args .script .now) (c .if1 .taken))
 loop-holds : tie.Need-loop-holds Inv-loop μ-loop
 loop-holds c = (search needs, none (c .before .before .args .script .now))
 
-mul-part : tie.Need-mul-part Inv-loop μ-loop
-mul-part c = search needs
-
-part-requires : tie.Need-part-requires Inv-loop μ-loop
-part-requires c κs = search needs
-
-formed-requires : tie.Need-formed-requires Inv-loop μ-loop
-formed-requires c κs = search needs
-
 returns-2 : tie.Need-returns-2 Inv-loop μ-loop
 returns-2 c =
     let script = c .before .before .before .before .before .before .before .args .script .now in
     let broken = sym (ap formedRow (c .before .before .part .ensures)) ∙ sym (c .before .formed .ensures) ∙ not-true _ (c .if2 .taken) in
     sym (bad script (c .before .before .before .before .before .if1 .left) _ (c .before .before .before .loop-test .taken) broken)
-
-add-i : tie.Need-add-i Inv-loop μ-loop
-add-i c = search needs
-
-loop-less : tie.Need-loop-less Inv-loop μ-loop
-loop-less c = search needs
 
 loop-again : tie.Need-loop-again Inv-loop μ-loop
 loop-again c =
@@ -59,11 +44,11 @@ rows-formed-spec =
     μ-loop
     returns
     loop-holds
-    mul-part
-    part-requires
-    formed-requires
+    (λ c. search needs)
+    (λ c κs. search needs)
+    (λ c κs. search needs)
     returns-2
-    add-i
-    loop-less
+    (λ c. search needs)
+    (λ c. search needs)
     loop-again
     returns-3)

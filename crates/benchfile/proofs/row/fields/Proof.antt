@@ -6,54 +6,6 @@ use borrow.Author.Needs.{needs}
 use Rattle.benchfile.proofs.row.fields.Statement.{statement}
 use Rattle.benchfile.proofs.row.fields.Tie as tie
 
-byte-requires : tie.Need-byte-requires
-byte-requires c κs = search needs
-
-byte-requires-2 : tie.Need-byte-requires-2
-byte-requires-2 c κs = search needs
-
-two-requires : tie.Need-two-requires
-two-requires c κs = search needs
-
-byte-requires-3 : tie.Need-byte-requires-3
-byte-requires-3 c κs = search needs
-
-byte-requires-4 : tie.Need-byte-requires-4
-byte-requires-4 c κs = search needs
-
-two-requires-2 : tie.Need-two-requires-2
-two-requires-2 c κs = search needs
-
-byte-requires-5 : tie.Need-byte-requires-5
-byte-requires-5 c κs = search needs
-
-two-requires-3 : tie.Need-two-requires-3
-two-requires-3 c κs = search needs
-
-byte-requires-6 : tie.Need-byte-requires-6
-byte-requires-6 c κs = search needs
-
-byte-requires-7 : tie.Need-byte-requires-7
-byte-requires-7 c κs = search needs
-
-two-requires-4 : tie.Need-two-requires-4
-two-requires-4 c κs = search needs
-
-byte-requires-8 : tie.Need-byte-requires-8
-byte-requires-8 c κs = search needs
-
-byte-requires-9 : tie.Need-byte-requires-9
-byte-requires-9 c κs = search needs
-
-two-requires-5 : tie.Need-two-requires-5
-two-requires-5 c κs = search needs
-
-byte-requires-10 : tie.Need-byte-requires-10
-byte-requires-10 c κs = search needs
-
-two-requires-6 : tie.Need-two-requires-6
-two-requires-6 c κs = search needs
-
 returns : tie.Need-returns
 unfolding fieldsOf
 returns c = simp (c .byte3 .ensures, c .before .two .ensures, c .before .before .byte2 .ensures, sym (c .before .before .before .before .byte .ensures) ∙ c .before .before .before .match .keys1)
@@ -92,22 +44,22 @@ pub fields-spec : {M : Type 1} → statement M
 fields-spec =
     tie.close
     (tie.spec
-    byte-requires
-    byte-requires-2
-    two-requires
-    byte-requires-3
-    byte-requires-4
-    two-requires-2
-    byte-requires-5
-    two-requires-3
-    byte-requires-6
-    byte-requires-7
-    two-requires-4
-    byte-requires-8
-    byte-requires-9
-    two-requires-5
-    byte-requires-10
-    two-requires-6
+    (λ c κs. search needs)
+    (λ c κs. search needs)
+    (λ c κs. search needs)
+    (λ c κs. search needs)
+    (λ c κs. search needs)
+    (λ c κs. search needs)
+    (λ c κs. search needs)
+    (λ c κs. search needs)
+    (λ c κs. search needs)
+    (λ c κs. search needs)
+    (λ c κs. search needs)
+    (λ c κs. search needs)
+    (λ c κs. search needs)
+    (λ c κs. search needs)
+    (λ c κs. search needs)
+    (λ c κs. search needs)
     returns
     returns-2
     returns-3

@@ -11,45 +11,6 @@ returns : tie.Need-returns
 unfolding formedRow
 returns c = simp (ne-eqb _ _ (c .if1 .taken))
 
-byte-requires : tie.Need-byte-requires
-byte-requires c κs = search needs
-
-two-requires : tie.Need-two-requires
-two-requires c κs = search needs
-
-byte-requires-2 : tie.Need-byte-requires-2
-byte-requires-2 c κs = search needs
-
-zero-from-requires : tie.Need-zero-from-requires
-zero-from-requires c κs = search needs
-
-zero-from-requires-2 : tie.Need-zero-from-requires-2
-zero-from-requires-2 c κs = search needs
-
-zero-from-requires-3 : tie.Need-zero-from-requires-3
-zero-from-requires-3 c κs = search needs
-
-zero-from-requires-4 : tie.Need-zero-from-requires-4
-zero-from-requires-4 c κs = search needs
-
-byte-requires-3 : tie.Need-byte-requires-3
-byte-requires-3 c κs = search needs
-
-zero-from-requires-5 : tie.Need-zero-from-requires-5
-zero-from-requires-5 c κs = search needs
-
-byte-requires-4 : tie.Need-byte-requires-4
-byte-requires-4 c κs = search needs
-
-zero-from-requires-6 : tie.Need-zero-from-requires-6
-zero-from-requires-6 c κs = search needs
-
-two-requires-2 : tie.Need-two-requires-2
-two-requires-2 c κs = search needs
-
-zero-from-requires-7 : tie.Need-zero-from-requires-7
-zero-from-requires-7 c κs = search needs
-
 returns-2 : tie.Need-returns-2
 unfolding formedRow
 returns-2 c = simp (eq-eqb _ _ (c .before .before .before .before .before .if1 .left), c .zero-from .ensures, c .before .byte2 .ensures, c .before .before .two .ensures, sym (c .before .before .before .before .byte .ensures) ∙ c .before .before .before .match .keys1)
@@ -90,19 +51,19 @@ formed-spec =
     tie.close
     (tie.spec
     returns
-    byte-requires
-    two-requires
-    byte-requires-2
-    zero-from-requires
-    zero-from-requires-2
-    zero-from-requires-3
-    zero-from-requires-4
-    byte-requires-3
-    zero-from-requires-5
-    byte-requires-4
-    zero-from-requires-6
-    two-requires-2
-    zero-from-requires-7
+    (λ c κs. search needs)
+    (λ c κs. search needs)
+    (λ c κs. search needs)
+    (λ c κs. search needs)
+    (λ c κs. search needs)
+    (λ c κs. search needs)
+    (λ c κs. search needs)
+    (λ c κs. search needs)
+    (λ c κs. search needs)
+    (λ c κs. search needs)
+    (λ c κs. search needs)
+    (λ c κs. search needs)
+    (λ c κs. search needs)
     returns-2
     returns-3
     returns-4

@@ -21,24 +21,6 @@ loop-holds : tie.Need-loop-holds Inv-loop μ-loop
 unfolding pageText
 loop-holds c = (refl, refl)
 
-cast-part : tie.Need-cast-part Inv-loop μ-loop
-cast-part c = omega arith
-
-mul-part : tie.Need-mul-part Inv-loop μ-loop
-mul-part c = omega arith
-
-part-requires : tie.Need-part-requires Inv-loop μ-loop
-part-requires c κs = tt
-
-line-requires : tie.Need-line-requires Inv-loop μ-loop
-line-requires c κs = tt
-
-add-k : tie.Need-add-k Inv-loop μ-loop
-add-k c = omega arith
-
-loop-less : tie.Need-loop-less Inv-loop μ-loop
-loop-less c = omega arith
-
 loop-again : tie.Need-loop-again Inv-loop μ-loop
 loop-again c = ((c .before .before .line .kept .0) ∙ (c .before .before .before .before .before .before .loop .inv .0), (c .before .before .before .before .before .before .loop .inv .1) ∙ each-next _ _ _ _ (c .before .before .before .before .before .loop-test .taken) (c .before .before .line .ensures) (ap (lineText _ _) (c .before .before .before .before .part .ensures)))
 
@@ -55,12 +37,12 @@ dump-page-spec =
     Inv-loop
     μ-loop
     loop-holds
-    cast-part
-    mul-part
-    part-requires
-    line-requires
-    add-k
-    loop-less
+    (λ c. omega arith)
+    (λ c. omega arith)
+    (λ c κs. tt)
+    (λ c κs. tt)
+    (λ c. omega arith)
+    (λ c. omega arith)
     loop-again
     same-length
     returns)

@@ -18,21 +18,6 @@ abbrev μ-loop : tie.MeasureT-loop
 loop-holds : tie.Need-loop-holds Inv-loop μ-loop
 loop-holds c = (refl, refl)
 
-shared-slice-read-ascii : tie.Need-shared-slice-read-ascii Inv-loop μ-loop
-shared-slice-read-ascii c = omega arith
-
-ascii-requires : tie.Need-ascii-requires Inv-loop μ-loop
-ascii-requires c κs = tt
-
-push-byte-requires : tie.Need-push-byte-requires Inv-loop μ-loop
-push-byte-requires c κs = tt
-
-add-i : tie.Need-add-i Inv-loop μ-loop
-add-i c = omega arith
-
-loop-less : tie.Need-loop-less Inv-loop μ-loop
-loop-less c = omega arith
-
 loop-again : tie.Need-loop-again Inv-loop μ-loop
 loop-again c =
     let at-loop-test = c .before .before .before .before .before .before in
@@ -51,11 +36,11 @@ signs-spec =
     Inv-loop
     μ-loop
     loop-holds
-    shared-slice-read-ascii
-    ascii-requires
-    push-byte-requires
-    add-i
-    loop-less
+    (λ c. omega arith)
+    (λ c κs. tt)
+    (λ c κs. tt)
+    (λ c. omega arith)
+    (λ c. omega arith)
     loop-again
     same-length
     returns)

@@ -1,11 +1,11 @@
 use mathlib.Core.Path.{sym}
-use Rattle.fields.proofs.Parts.{field-none}
+use Rattle.fields.proofs.Number.{past-end}
 use borrow.Author.Needs.{needs}
 use Rattle.fields.proofs.word.two.Statement.{statement}
 use Rattle.fields.proofs.word.two.Tie as tie
 
 returns : tie.Need-returns
-returns c = sym (field-none 2 (c .before .before .args .s .now) _ (c .if1 .taken))
+returns c = sym (past-end 2 (c .before .before .args .s .now) _ (c .if1 .taken))
 
 byte-requires : tie.Need-byte-requires
 byte-requires c κs = search needs

@@ -4,35 +4,11 @@ use borrow.Author.Needs.{needs}
 use Rattle.hdma.proofs.entry.init_channel.Statement.{statement}
 use Rattle.hdma.proofs.entry.init_channel.Tie as tie
 
-channel-of-requires : tie.Need-channel-of-requires
-channel-of-requires c κs = search needs
-
-flag-requires : tie.Need-flag-requires
-flag-requires c κs = search needs
-
-with-channel-requires : tie.Need-with-channel-requires
-with-channel-requires c κs = search needs
-
-read-table-requires : tie.Need-read-table-requires
-read-table-requires c κs = search needs
-
-set-hdma-requires : tie.Need-set-hdma-requires
-set-hdma-requires c κs = search needs
-
 returns : tie.Need-returns
 returns c = init-none _ _ _ (c .before .before .before .before .before .before .channel-of .ensures) (c .before .before .before .before .with-channel .ensures) (c .before .before .before .before .before .flag .ensures) (c .before .before .before .read-table .ensures) (eq-eqb _ _ (c .before .if1 .taken)) (c .set-hdma .ensures)
 
-load-das-requires : tie.Need-load-das-requires
-load-das-requires c κs = search needs
-
-set-hdma-requires-2 : tie.Need-set-hdma-requires-2
-set-hdma-requires-2 c κs = search needs
-
 returns-2 : tie.Need-returns-2
 returns-2 c = init-indirect _ _ _ (c .before .before .before .before .before .before .before .before .channel-of .ensures) (c .before .before .before .before .before .before .with-channel .ensures) (c .before .before .before .before .before .before .before .flag .ensures) (c .before .before .before .before .before .read-table .ensures) (ne-eqb _ _ (c .before .before .before .if1 .left)) (c .before .before .if2 .taken) (c .before .load-das .ensures) (c .set-hdma2 .ensures)
-
-set-hdma-requires-3 : tie.Need-set-hdma-requires-3
-set-hdma-requires-3 c κs = search needs
 
 returns-3 : tie.Need-returns-3
 returns-3 c = init-direct _ _ _ (c .before .before .before .before .before .before .before .channel-of .ensures) (c .before .before .before .before .before .with-channel .ensures) (c .before .before .before .before .before .before .flag .ensures) (c .before .before .before .before .read-table .ensures) (ne-eqb _ _ (c .before .before .if1 .left)) (c .before .if2 .left) (c .set-hdma3 .ensures)
@@ -41,14 +17,14 @@ pub init-channel-spec : {M : Type 1} → statement M
 init-channel-spec =
     tie.close
     (tie.spec
-    channel-of-requires
-    flag-requires
-    with-channel-requires
-    read-table-requires
-    set-hdma-requires
+    (λ c κs. search needs)
+    (λ c κs. search needs)
+    (λ c κs. search needs)
+    (λ c κs. search needs)
+    (λ c κs. search needs)
     returns
-    load-das-requires
-    set-hdma-requires-2
+    (λ c κs. search needs)
+    (λ c κs. search needs)
     returns-2
-    set-hdma-requires-3
+    (λ c κs. search needs)
     returns-3)

@@ -7,18 +7,6 @@ use borrow.Author.Needs.{needs}
 use Rattle.inplace.proofs.onebyte.next_wmadd.Statement.{statement}
 use Rattle.inplace.proofs.onebyte.next_wmadd.Tie as tie
 
-wmadd-at-requires : tie.Need-wmadd-at-requires
-wmadd-at-requires c κs = search needs
-
-slice-aggregate-bside-at : tie.Need-slice-aggregate-bside-at
-slice-aggregate-bside-at c = search needs
-
-bside-at-requires : tie.Need-bside-at-requires
-bside-at-requires c κs = search needs
-
-inc-requires : tie.Need-inc-requires
-inc-requires c κs = search needs
-
 returns : tie.Need-returns
 unfolding wmaddNext
 returns c = rw (eq-eqb (bsideAt ((c .before .before .before .before .before .args .t1))) 0x2180 (sym ((c .before .before .bside-at .ensures)) ∙ (c .before .if1 .taken))) ((c .inc .ensures) ∙ ap stepped ((c .before .before .before .before .wmadd-at .ensures)))
@@ -31,9 +19,9 @@ pub next-wmadd-spec : {M : Type 1} → statement M
 next-wmadd-spec =
     tie.close
     (tie.spec
-    wmadd-at-requires
-    slice-aggregate-bside-at
-    bside-at-requires
-    inc-requires
+    (λ c κs. search needs)
+    (λ c. search needs)
+    (λ c κs. search needs)
+    (λ c κs. search needs)
     returns
     returns-2)

@@ -5,38 +5,14 @@ use borrow.Author.Needs.{needs}
 use Rattle.inplace.proofs.onebyte.port_byte.Statement.{statement}
 use Rattle.inplace.proofs.onebyte.port_byte.Tie as tie
 
-array-read-result : tie.Need-array-read-result
-array-read-result c = search needs
-
 returns : tie.Need-returns
 returns c = rw (below 0x2134 0x2140 ((c .before .args .addr)) ((c .if1 .taken)), below 0x2140 0x2180 ((c .before .args .addr)) (omega (arith, (c .if1 .taken)))) refl
-
-cast-i : tie.Need-cast-i
-cast-i c = search needs
-
-add-result : tie.Need-add-result
-add-result c = search needs
-
-array-read-result-2 : tie.Need-array-read-result-2
-array-read-result-2 c = search needs
 
 returns-2 : tie.Need-returns-2
 returns-2 c = rw (inside 0x2134 0x2140 ((c .before .before .args .addr)) ((c .before .if1 .left)) ((c .if2 .taken))) refl
 
-cast-i-2 : tie.Need-cast-i-2
-cast-i-2 c = search needs
-
-add-result-2 : tie.Need-add-result-2
-add-result-2 c = search needs
-
-array-read-result-3 : tie.Need-array-read-result-3
-array-read-result-3 c = search needs
-
 returns-3 : tie.Need-returns-3
 returns-3 c = rw (above 0x2134 0x2140 ((c .before .before .before .args .addr)) ((c .before .if2 .left)), inside 0x2140 0x2180 ((c .before .before .before .args .addr)) ((c .before .if2 .left)) ((c .if3 .taken))) refl
-
-array-read-result-4 : tie.Need-array-read-result-4
-array-read-result-4 c = search needs
 
 returns-4 : tie.Need-returns-4
 returns-4 c = rw (above 0x2134 0x2140 ((c .before .before .before .args .addr)) ((c .before .if2 .left)), above 0x2140 0x2180 ((c .before .before .before .args .addr)) ((c .if3 .left))) refl
@@ -45,15 +21,15 @@ pub port-byte-spec : {M : Type 1} → statement M
 port-byte-spec =
     tie.close
     (tie.spec
-    array-read-result
+    (λ c. search needs)
     returns
-    cast-i
-    add-result
-    array-read-result-2
+    (λ c. search needs)
+    (λ c. search needs)
+    (λ c. search needs)
     returns-2
-    cast-i-2
-    add-result-2
-    array-read-result-3
+    (λ c. search needs)
+    (λ c. search needs)
+    (λ c. search needs)
     returns-3
-    array-read-result-4
+    (λ c. search needs)
     returns-4)

@@ -3,51 +3,6 @@ use borrow.Author.Needs.{needs}
 use Rattle.inplace.proofs.rest.rest.Statement.{statement}
 use Rattle.inplace.proofs.rest.rest.Tie as tie
 
-head-bytes-requires : tie.Need-head-bytes-requires
-head-bytes-requires c κs = search needs
-
-slot-at-requires : tie.Need-slot-at-requires
-slot-at-requires c κs = search needs
-
-kept-at-requires : tie.Need-kept-at-requires
-kept-at-requires c κs = search needs
-
-length-at-requires : tie.Need-length-at-requires
-length-at-requires c κs = search needs
-
-wait-at-requires : tie.Need-wait-at-requires
-wait-at-requires c κs = search needs
-
-clock-at-requires : tie.Need-clock-at-requires
-clock-at-requires c κs = search needs
-
-nmi-at-requires : tie.Need-nmi-at-requires
-nmi-at-requires c κs = search needs
-
-byte-requires : tie.Need-byte-requires
-byte-requires c κs = search needs
-
-put-slot-requires : tie.Need-put-slot-requires
-put-slot-requires c κs = search needs
-
-tick-requires : tie.Need-tick-requires
-tick-requires c κs = search needs
-
-count-requires : tie.Need-count-requires
-count-requires c κs = search needs
-
-put-quiet-requires : tie.Need-put-quiet-requires
-put-quiet-requires c κs = search needs
-
-same-length : tie.Need-same-length
-same-length c = search needs
-
-same-length-2 : tie.Need-same-length-2
-same-length-2 c = search needs
-
-same-length-3 : tie.Need-same-length-3
-same-length-3 c = search needs
-
 returns : tie.Need-returns
 returns c =
     let at-put-quiet = c .before .before in
@@ -69,19 +24,19 @@ pub rest-spec : {M : Type 1} → statement M
 rest-spec =
     tie.close
     (tie.spec
-    head-bytes-requires
-    slot-at-requires
-    kept-at-requires
-    length-at-requires
-    wait-at-requires
-    clock-at-requires
-    nmi-at-requires
-    byte-requires
-    put-slot-requires
-    tick-requires
-    count-requires
-    put-quiet-requires
-    same-length
-    same-length-2
-    same-length-3
+    (λ c κs. search needs)
+    (λ c κs. search needs)
+    (λ c κs. search needs)
+    (λ c κs. search needs)
+    (λ c κs. search needs)
+    (λ c κs. search needs)
+    (λ c κs. search needs)
+    (λ c κs. search needs)
+    (λ c κs. search needs)
+    (λ c κs. search needs)
+    (λ c κs. search needs)
+    (λ c κs. search needs)
+    (λ c. search needs)
+    (λ c. search needs)
+    (λ c. search needs)
     returns)

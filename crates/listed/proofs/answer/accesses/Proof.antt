@@ -11,12 +11,6 @@ Inv-loop line₀ at log end₀ i₀ line end i = length line ≡ length line₀
 abbrev μ-loop : tie.MeasureT-loop
 μ-loop line₀ at log end₀ i₀ line end i = 11 - i
 
-loop-holds : tie.Need-loop-holds Inv-loop μ-loop
-loop-holds c = refl
-
-access-at-requires : tie.Need-access-at-requires Inv-loop μ-loop
-access-at-requires c κs = tt
-
 add-i : tie.Need-add-i Inv-loop μ-loop
 add-i c = omega (arith, (c .before .before .before .before .loop-test .taken))
 
@@ -29,19 +23,16 @@ loop-again c = (c .before .before .access-at .kept .0) ∙ (c .before .before .b
 same-length : tie.Need-same-length Inv-loop μ-loop
 same-length c = (c .before .loop .inv)
 
-returns : tie.Need-returns Inv-loop μ-loop
-returns c = tt
-
 pub accesses-spec : {M : Type 1} → statement M
 accesses-spec =
     tie.close
     (tie.spec
     Inv-loop
     μ-loop
-    loop-holds
-    access-at-requires
+    (λ c. refl)
+    (λ c κs. tt)
     add-i
     loop-less
     loop-again
     same-length
-    returns)
+    (λ c. tt))

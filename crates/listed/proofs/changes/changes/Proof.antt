@@ -11,12 +11,6 @@ Inv-loop line₀ at name wide before after end₀ i₀ line end i = length line 
 abbrev μ-loop : tie.MeasureT-loop
 μ-loop line₀ at name wide before after end₀ i₀ line end i = length after - i
 
-loop-holds : tie.Need-loop-holds Inv-loop μ-loop
-loop-holds c = refl
-
-change-at-requires : tie.Need-change-at-requires Inv-loop μ-loop
-change-at-requires c κs = tt
-
 add-i : tie.Need-add-i Inv-loop μ-loop
 add-i c = omega (arith, (c .before .before .before .before .loop-test .taken))
 
@@ -29,19 +23,16 @@ loop-again c = (c .before .before .change-at .kept .0) ∙ (c .before .before .b
 same-length : tie.Need-same-length Inv-loop μ-loop
 same-length c = (c .before .loop .inv)
 
-returns : tie.Need-returns Inv-loop μ-loop
-returns c = tt
-
 pub changes-spec : {M : Type 1} → statement M
 changes-spec =
     tie.close
     (tie.spec
     Inv-loop
     μ-loop
-    loop-holds
-    change-at-requires
+    (λ c. refl)
+    (λ c κs. tt)
     add-i
     loop-less
     loop-again
     same-length
-    returns)
+    (λ c. tt))

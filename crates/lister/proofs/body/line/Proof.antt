@@ -8,21 +8,6 @@ use Rattle.lister.proofs.body.line.Tie as tie
 returns : tie.Need-returns
 returns c = rw (line-none (c .before .before .before .before .args .word .now) (c .before .before .before .before .args .s .now) (c .if1 .taken)) (sym (puts-none _))
 
-put-requires : tie.Need-put-requires
-put-requires c κs = search needs
-
-slice-aggregate-hexes : tie.Need-slice-aggregate-hexes
-slice-aggregate-hexes c = search needs
-
-hexes-requires : tie.Need-hexes-requires
-hexes-requires c κs = search needs
-
-push-byte-requires : tie.Need-push-byte-requires
-push-byte-requires c κs = search needs
-
-same-length : tie.Need-same-length
-same-length c = search needs
-
 returns-2 : tie.Need-returns-2
 returns-2 c =
     let at-hexes = c .before .before .before .before .before .before in
@@ -36,9 +21,9 @@ line-spec =
     tie.close
     (tie.spec
     returns
-    put-requires
-    slice-aggregate-hexes
-    hexes-requires
-    push-byte-requires
-    same-length
+    (λ c κs. search needs)
+    (λ c. search needs)
+    (λ c κs. search needs)
+    (λ c κs. search needs)
+    (λ c. search needs)
     returns-2)

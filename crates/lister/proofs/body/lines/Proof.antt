@@ -15,26 +15,8 @@ Inv-loop out₀ at word s n to₀ k₀ out to k =
 abbrev μ-loop : tie.MeasureT-loop
 μ-loop out₀ at word s n to₀ k₀ out to k = n - k
 
-add-n : tie.Need-add-n Inv-loop μ-loop
-add-n c = omega arith
-
 loop-holds : tie.Need-loop-holds Inv-loop μ-loop
 loop-holds c = (refl, each-start _ _ _)
-
-mul-part : tie.Need-mul-part Inv-loop μ-loop
-mul-part c = omega arith
-
-part-requires : tie.Need-part-requires Inv-loop μ-loop
-part-requires c κs = tt
-
-line-requires : tie.Need-line-requires Inv-loop μ-loop
-line-requires c κs = tt
-
-add-k : tie.Need-add-k Inv-loop μ-loop
-add-k c = omega arith
-
-loop-less : tie.Need-loop-less Inv-loop μ-loop
-loop-less c = omega arith
 
 loop-again : tie.Need-loop-again Inv-loop μ-loop
 loop-again c = ((c .before .before .line .kept .0) ∙ (c .before .before .before .before .before .before .loop .inv .0), (c .before .before .before .before .before .before .loop .inv .1) ∙ each-next _ _ _ _ (c .before .before .before .before .before .loop-test .taken) (c .before .before .line .ensures) (ap (lineText _) (c .before .before .before .before .part .ensures)))
@@ -52,13 +34,13 @@ lines-spec =
     (tie.spec
     Inv-loop
     μ-loop
-    add-n
+    (λ c. omega arith)
     loop-holds
-    mul-part
-    part-requires
-    line-requires
-    add-k
-    loop-less
+    (λ c. omega arith)
+    (λ c κs. tt)
+    (λ c κs. tt)
+    (λ c. omega arith)
+    (λ c. omega arith)
     loop-again
     same-length
     returns)

@@ -20,21 +20,6 @@ abbrev μ-loop : tie.MeasureT-loop
 loop-holds : tie.Need-loop-holds Inv-loop μ-loop
 loop-holds c = (refl, each-start _ _ _)
 
-mul-part : tie.Need-mul-part Inv-loop μ-loop
-mul-part c = search needs
-
-part-requires : tie.Need-part-requires Inv-loop μ-loop
-part-requires c κs = tt
-
-write-row-requires : tie.Need-write-row-requires Inv-loop μ-loop
-write-row-requires c κs = tt
-
-add-i : tie.Need-add-i Inv-loop μ-loop
-add-i c = search needs
-
-loop-less : tie.Need-loop-less Inv-loop μ-loop
-loop-less c = omega arith
-
 loop-again : tie.Need-loop-again Inv-loop μ-loop
 loop-again c = ((c .before .before .write-row .kept .0) ∙ (c .before .before .before .before .before .before .loop .inv .0), (c .before .before .before .before .before .before .loop .inv .1) ∙ each-next _ _ _ _ (c .before .before .before .before .before .loop-test .taken) (c .before .before .write-row .ensures) (ap rowText (c .before .before .before .before .part .ensures)))
 
@@ -52,11 +37,11 @@ rows-spec =
     Inv-loop
     μ-loop
     loop-holds
-    mul-part
-    part-requires
-    write-row-requires
-    add-i
-    loop-less
+    (λ c. search needs)
+    (λ c κs. tt)
+    (λ c κs. tt)
+    (λ c. search needs)
+    (λ c. omega arith)
     loop-again
     same-length
     returns)

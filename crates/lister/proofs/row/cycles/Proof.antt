@@ -4,27 +4,6 @@ use borrow.Author.Needs.{needs}
 use Rattle.lister.proofs.row.cycles.Statement.{statement}
 use Rattle.lister.proofs.row.cycles.Tie as tie
 
-slice-aggregate-put : tie.Need-slice-aggregate-put
-slice-aggregate-put c = search needs
-
-put-requires : tie.Need-put-requires
-put-requires c κs = search needs
-
-decimal-requires : tie.Need-decimal-requires
-decimal-requires c κs = search needs
-
-event-requires : tie.Need-event-requires
-event-requires c κs = search needs
-
-flags-requires : tie.Need-flags-requires
-flags-requires c κs = search needs
-
-push-byte-requires : tie.Need-push-byte-requires
-push-byte-requires c κs = search needs
-
-same-length : tie.Need-same-length
-same-length c = search needs
-
 returns : tie.Need-returns
 unfolding cyclesText
 returns c =
@@ -37,11 +16,11 @@ pub cycles-spec : {M : Type 1} → statement M
 cycles-spec =
     tie.close
     (tie.spec
-    slice-aggregate-put
-    put-requires
-    decimal-requires
-    event-requires
-    flags-requires
-    push-byte-requires
-    same-length
+    (λ c. search needs)
+    (λ c κs. search needs)
+    (λ c κs. search needs)
+    (λ c κs. search needs)
+    (λ c κs. search needs)
+    (λ c κs. search needs)
+    (λ c. search needs)
     returns)

@@ -6,30 +6,6 @@ use borrow.Author.Needs.{needs}
 use Rattle.lister.proofs.row.write_row.Statement.{statement}
 use Rattle.lister.proofs.row.write_row.Tie as tie
 
-byte-requires : tie.Need-byte-requires
-byte-requires c κs = search needs
-
-byte-requires-2 : tie.Need-byte-requires-2
-byte-requires-2 c κs = search needs
-
-byte-requires-3 : tie.Need-byte-requires-3
-byte-requires-3 c κs = search needs
-
-byte-requires-4 : tie.Need-byte-requires-4
-byte-requires-4 c κs = search needs
-
-byte-requires-5 : tie.Need-byte-requires-5
-byte-requires-5 c κs = search needs
-
-two-requires : tie.Need-two-requires
-two-requires c κs = search needs
-
-cycles-requires : tie.Need-cycles-requires
-cycles-requires c κs = search needs
-
-same-length : tie.Need-same-length
-same-length c = search needs
-
 returns : tie.Need-returns
 unfolding rowText
 returns c =
@@ -37,18 +13,6 @@ returns c =
     let at-byte = at-two .before .before .before .before .before in
     (c .before .before .cycles .ensures)
     ∙ simp (sym (at-byte .byte .ensures) ∙ (c .before .before .before .before .if1 .taken), (at-two .two .ensures), (at-two .before .before .byte4 .ensures), (at-two .before .byte5 .ensures))
-
-read-text-requires : tie.Need-read-text-requires
-read-text-requires c κs = search needs
-
-slice-aggregate-put : tie.Need-slice-aggregate-put
-slice-aggregate-put c = search needs
-
-put-requires : tie.Need-put-requires
-put-requires c κs = search needs
-
-same-length-2 : tie.Need-same-length-2
-same-length-2 c = search needs
 
 returns-2 : tie.Need-returns-2
 unfolding rowText
@@ -59,18 +23,6 @@ returns-2 c =
     ∙ simp
     (sym (at-byte4 .before .before .before .byte .ensures) ∙ (at-read-text .before .if2 .taken), (at-read-text .read-text .ensures), (at-byte4 .before .before .byte2 .ensures), (at-byte4 .before .byte3 .ensures), (at-byte4 .byte4 .ensures))
 
-write-text-requires : tie.Need-write-text-requires
-write-text-requires c κs = search needs
-
-slice-aggregate-put-2 : tie.Need-slice-aggregate-put-2
-slice-aggregate-put-2 c = search needs
-
-put-requires-2 : tie.Need-put-requires-2
-put-requires-2 c κs = search needs
-
-same-length-3 : tie.Need-same-length-3
-same-length-3 c = search needs
-
 returns-3 : tie.Need-returns-3
 unfolding rowText
 returns-3 c =
@@ -80,12 +32,6 @@ returns-3 c =
     ∙ simp
     (sym (at-byte5 .before .before .before .before .byte .ensures) ∙ (at-write-text .before .if3 .taken), (at-write-text .write-text .ensures), (at-byte5 .before .before .before .byte2 .ensures), (at-byte5 .before .before .byte3 .ensures), (at-byte5 .before .byte4 .ensures), (at-byte5 .byte5 .ensures))
 
-pad-requires : tie.Need-pad-requires
-pad-requires c κs = search needs
-
-same-length-4 : tie.Need-same-length-4
-same-length-4 c = search needs
-
 returns-4 : tie.Need-returns-4
 unfolding rowText
 returns-4 c =
@@ -94,30 +40,12 @@ returns-4 c =
     ∙ simp
     (sym (at-byte4 .before .before .before .byte .ensures) ∙ (c .before .before .before .before .if4 .taken), (at-byte4 .before .before .byte2 .ensures), (at-byte4 .before .byte3 .ensures), (at-byte4 .byte4 .ensures))
 
-plug-requires : tie.Need-plug-requires
-plug-requires c κs = search needs
-
-same-length-5 : tie.Need-same-length-5
-same-length-5 c = search needs
-
 returns-5 : tie.Need-returns-5
 unfolding rowText
 returns-5 c =
     let at-byte3 = c .before .before .before .before .before .before .before .before .before .before .before .before in
     (c .before .before .plug .ensures)
     ∙ simp (sym (at-byte3 .before .before .byte .ensures) ∙ (c .before .before .before .before .if5 .taken), (at-byte3 .before .byte2 .ensures), (at-byte3 .byte3 .ensures))
-
-answer-text-requires : tie.Need-answer-text-requires
-answer-text-requires c κs = search needs
-
-slice-aggregate-put-3 : tie.Need-slice-aggregate-put-3
-slice-aggregate-put-3 c = search needs
-
-put-requires-3 : tie.Need-put-requires-3
-put-requires-3 c κs = search needs
-
-same-length-6 : tie.Need-same-length-6
-same-length-6 c = search needs
 
 returns-6 : tie.Need-returns-6
 unfolding rowText
@@ -127,15 +55,6 @@ returns-6 c =
     (c .before .before .put3 .ensures)
     ∙ simp
     (sym (at-byte5 .before .before .before .before .byte .ensures) ∙ (at-answer-text .before .if6 .taken), (at-answer-text .answer-text .ensures), (at-byte5 .before .before .byte3 .ensures), (at-byte5 .before .byte4 .ensures), (at-byte5 .byte5 .ensures))
-
-slice-aggregate-number-line : tie.Need-slice-aggregate-number-line
-slice-aggregate-number-line c = search needs
-
-number-line-requires : tie.Need-number-line-requires
-number-line-requires c κs = search needs
-
-same-length-7 : tie.Need-same-length-7
-same-length-7 c = search needs
 
 returns-7 : tie.Need-returns-7
 unfolding rowText backText
@@ -167,38 +86,38 @@ pub write-row-spec : {M : Type 1} → statement M
 write-row-spec =
     tie.close
     (tie.spec
-    byte-requires
-    byte-requires-2
-    byte-requires-3
-    byte-requires-4
-    byte-requires-5
-    two-requires
-    cycles-requires
-    same-length
+    (λ c κs. search needs)
+    (λ c κs. search needs)
+    (λ c κs. search needs)
+    (λ c κs. search needs)
+    (λ c κs. search needs)
+    (λ c κs. search needs)
+    (λ c κs. search needs)
+    (λ c. search needs)
     returns
-    read-text-requires
-    slice-aggregate-put
-    put-requires
-    same-length-2
+    (λ c κs. search needs)
+    (λ c. search needs)
+    (λ c κs. search needs)
+    (λ c. search needs)
     returns-2
-    write-text-requires
-    slice-aggregate-put-2
-    put-requires-2
-    same-length-3
+    (λ c κs. search needs)
+    (λ c. search needs)
+    (λ c κs. search needs)
+    (λ c. search needs)
     returns-3
-    pad-requires
-    same-length-4
+    (λ c κs. search needs)
+    (λ c. search needs)
     returns-4
-    plug-requires
-    same-length-5
+    (λ c κs. search needs)
+    (λ c. search needs)
     returns-5
-    answer-text-requires
-    slice-aggregate-put-3
-    put-requires-3
-    same-length-6
+    (λ c κs. search needs)
+    (λ c. search needs)
+    (λ c κs. search needs)
+    (λ c. search needs)
     returns-6
-    slice-aggregate-number-line
-    number-line-requires
-    same-length-7
+    (λ c. search needs)
+    (λ c κs. search needs)
+    (λ c. search needs)
     returns-7
     returns-8)

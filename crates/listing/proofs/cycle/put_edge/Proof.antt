@@ -10,18 +10,6 @@ returns c = edge-none _ _ _ _ _ (not-true _ (c .if1 .taken))
 returns-2 : tie.Need-returns-2
 returns-2 c = edge-left _ _ _ _ _ (not-false _ (c .before .if1 .left)) (ne-eqb _ _ (c .if2 .taken))
 
-head-requires : tie.Need-head-requires
-head-requires c κs = search needs
-
-slice-aggregate-put : tie.Need-slice-aggregate-put
-slice-aggregate-put c = search needs
-
-put-requires : tie.Need-put-requires
-put-requires c κs = search needs
-
-same-length : tie.Need-same-length
-same-length c = search needs
-
 returns-3 : tie.Need-returns-3
 returns-3 c = edge-joined _ _ _ _ _ (not-false _ (c .before .before .before .before .before .before .before .before .before .before .if1 .left)) (eq-eqb _ _ (c .before .before .before .before .before .before .before .before .before .if2 .left)) (c .before .before .before .before .before .before .before .head .ensures) (c .before .before .put .ensures)
 
@@ -31,8 +19,8 @@ put-edge-spec =
     (tie.spec
     returns
     returns-2
-    head-requires
-    slice-aggregate-put
-    put-requires
-    same-length
+    (λ c κs. search needs)
+    (λ c. search needs)
+    (λ c κs. search needs)
+    (λ c. search needs)
     returns-3)

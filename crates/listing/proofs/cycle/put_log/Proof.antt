@@ -16,29 +16,11 @@ Inv-loop out₀ at l zero items who n to₀ wm₀ first₀ i₀ out to wm first 
 abbrev μ-loop : tie.MeasureT-loop
 μ-loop out₀ at l zero items who n to₀ wm₀ first₀ i₀ out to wm first i = n - i
 
-made-requires : tie.Need-made-requires Inv-loop μ-loop
-made-requires c κs = tt
-
 loop-holds : tie.Need-loop-holds Inv-loop μ-loop
 loop-holds c = (refl, omega arith, refl, refl)
 
-mul-a : tie.Need-mul-a Inv-loop μ-loop
-mul-a c = omega arith
-
 array-copy-out-a : tie.Need-array-copy-out-a Inv-loop μ-loop
 array-copy-out-a c = omega (arith, (c .before .before .made .ensures))
-
-reached-requires : tie.Need-reached-requires Inv-loop μ-loop
-reached-requires c κs = tt
-
-put-access-requires : tie.Need-put-access-requires Inv-loop μ-loop
-put-access-requires c κs = tt
-
-add-i : tie.Need-add-i Inv-loop μ-loop
-add-i c = omega arith
-
-loop-less : tie.Need-loop-less Inv-loop μ-loop
-loop-less c = omega arith
 
 loop-again : tie.Need-loop-again Inv-loop μ-loop
 loop-again c =
@@ -60,14 +42,14 @@ put-log-spec =
     (tie.spec
     Inv-loop
     μ-loop
-    made-requires
+    (λ c κs. tt)
     loop-holds
-    mul-a
+    (λ c. omega arith)
     array-copy-out-a
-    reached-requires
-    put-access-requires
-    add-i
-    loop-less
+    (λ c κs. tt)
+    (λ c κs. tt)
+    (λ c. omega arith)
+    (λ c. omega arith)
     loop-again
     same-length
     returns)

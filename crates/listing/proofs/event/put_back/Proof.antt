@@ -7,45 +7,6 @@ use Rattle.listing.proofs.event.put_back.Tie as tie
 returns : tie.Need-returns
 returns c = back-none _ _ _ _ _ _ (eq-eqb _ _ (c .if1 .taken))
 
-head-requires : tie.Need-head-requires
-head-requires c κs = search needs
-
-slice-aggregate-put : tie.Need-slice-aggregate-put
-slice-aggregate-put c = search needs
-
-put-requires : tie.Need-put-requires
-put-requires c κs = search needs
-
-decimal-requires : tie.Need-decimal-requires
-decimal-requires c κs = search needs
-
-slice-aggregate-put-2 : tie.Need-slice-aggregate-put-2
-slice-aggregate-put-2 c = search needs
-
-put-requires-2 : tie.Need-put-requires-2
-put-requires-2 c κs = search needs
-
-decimal-requires-2 : tie.Need-decimal-requires-2
-decimal-requires-2 c κs = search needs
-
-slice-aggregate-put-3 : tie.Need-slice-aggregate-put-3
-slice-aggregate-put-3 c = search needs
-
-put-requires-3 : tie.Need-put-requires-3
-put-requires-3 c κs = search needs
-
-put-origin-requires : tie.Need-put-origin-requires
-put-origin-requires c κs = search needs
-
-slice-aggregate-put-4 : tie.Need-slice-aggregate-put-4
-slice-aggregate-put-4 c = search needs
-
-put-requires-4 : tie.Need-put-requires-4
-put-requires-4 c κs = search needs
-
-same-length : tie.Need-same-length
-same-length c = search needs
-
 returns-2 : tie.Need-returns-2
 returns-2 c =
     let at-put-origin = c .before .before .before .before .before .before .before in
@@ -61,17 +22,17 @@ put-back-spec =
     tie.close
     (tie.spec
     returns
-    head-requires
-    slice-aggregate-put
-    put-requires
-    decimal-requires
-    slice-aggregate-put-2
-    put-requires-2
-    decimal-requires-2
-    slice-aggregate-put-3
-    put-requires-3
-    put-origin-requires
-    slice-aggregate-put-4
-    put-requires-4
-    same-length
+    (λ c κs. search needs)
+    (λ c. search needs)
+    (λ c κs. search needs)
+    (λ c κs. search needs)
+    (λ c. search needs)
+    (λ c κs. search needs)
+    (λ c κs. search needs)
+    (λ c. search needs)
+    (λ c κs. search needs)
+    (λ c κs. search needs)
+    (λ c. search needs)
+    (λ c κs. search needs)
+    (λ c. search needs)
     returns-2)

@@ -7,54 +7,6 @@ use Rattle.listing.proofs.line.put_access.Tie as tie
 returns : tie.Need-returns
 returns c = access-none _ _ _ _ _ (not-true _ (c .if1 .taken))
 
-who-text-requires : tie.Need-who-text-requires
-who-text-requires c κs = search needs
-
-verb-text-requires : tie.Need-verb-text-requires
-verb-text-requires c κs = search needs
-
-address-text-requires : tie.Need-address-text-requires
-address-text-requires c κs = search needs
-
-head-requires : tie.Need-head-requires
-head-requires c κs = search needs
-
-slice-aggregate-put : tie.Need-slice-aggregate-put
-slice-aggregate-put c = search needs
-
-put-requires : tie.Need-put-requires
-put-requires c κs = search needs
-
-slice-aggregate-put-2 : tie.Need-slice-aggregate-put-2
-slice-aggregate-put-2 c = search needs
-
-put-requires-2 : tie.Need-put-requires-2
-put-requires-2 c κs = search needs
-
-slice-aggregate-put-3 : tie.Need-slice-aggregate-put-3
-slice-aggregate-put-3 c = search needs
-
-put-requires-3 : tie.Need-put-requires-3
-put-requires-3 c κs = search needs
-
-put-spot-requires : tie.Need-put-spot-requires
-put-spot-requires c κs = search needs
-
-put-own-requires : tie.Need-put-own-requires
-put-own-requires c κs = search needs
-
-put-zero-requires : tie.Need-put-zero-requires
-put-zero-requires c κs = search needs
-
-slice-aggregate-put-4 : tie.Need-slice-aggregate-put-4
-slice-aggregate-put-4 c = search needs
-
-put-requires-4 : tie.Need-put-requires-4
-put-requires-4 c κs = search needs
-
-same-length : tie.Need-same-length
-same-length c = search needs
-
 returns-2 : tie.Need-returns-2
 returns-2 c =
     let at-put-zero = c .before .before .before .before .before .before .before in
@@ -73,20 +25,20 @@ put-access-spec =
     tie.close
     (tie.spec
     returns
-    who-text-requires
-    verb-text-requires
-    address-text-requires
-    head-requires
-    slice-aggregate-put
-    put-requires
-    slice-aggregate-put-2
-    put-requires-2
-    slice-aggregate-put-3
-    put-requires-3
-    put-spot-requires
-    put-own-requires
-    put-zero-requires
-    slice-aggregate-put-4
-    put-requires-4
-    same-length
+    (λ c κs. search needs)
+    (λ c κs. search needs)
+    (λ c κs. search needs)
+    (λ c κs. search needs)
+    (λ c. search needs)
+    (λ c κs. search needs)
+    (λ c. search needs)
+    (λ c κs. search needs)
+    (λ c. search needs)
+    (λ c κs. search needs)
+    (λ c κs. search needs)
+    (λ c κs. search needs)
+    (λ c κs. search needs)
+    (λ c. search needs)
+    (λ c κs. search needs)
+    (λ c. search needs)
     returns-2)

@@ -6,18 +6,9 @@ use Rattle.moves.proofs.lines.put_returned.Tie as tie
 returns : tie.Need-returns
 returns c = back-goes _ _ _ _ _ _ _ (c .if1 .taken)
 
-put-back-requires : tie.Need-put-back-requires
-put-back-requires c κs = search needs
-
-put-refused-requires : tie.Need-put-refused-requires
-put-refused-requires c κs = search needs
-
-same-length : tie.Need-same-length
-same-length c = search needs
-
 returns-2 : tie.Need-returns-2
 returns-2 c = back-ends _ _ _ _ _ _ _ (c .before .before .before .before .before .before .before .before .if1 .left) (c .before .before .before .before .before .before .put-back .ensures) (c .before .before .put-refused .ensures)
 
 pub put-returned-spec : {M : Type 1} → statement M
 put-returned-spec =
-    tie.close (tie.spec returns put-back-requires put-refused-requires same-length returns-2)
+    tie.close (tie.spec returns (λ c κs. search needs) (λ c κs. search needs) (λ c. search needs) returns-2)

@@ -26,15 +26,6 @@ module _ (l : List ℕ) (slot origin : ℕ) {counts : Bool} where
 returns : tie.Need-returns
 returns c = none _ _ _ (not-true _ (c .if1 .taken))
 
-mul-origins : tie.Need-mul-origins
-mul-origins c = search needs
-
-slice-write-origins : tie.Need-slice-write-origins
-slice-write-origins c = search needs
-
-same-length : tie.Need-same-length
-same-length c = search needs
-
 returns-2 : tie.Need-returns-2
 returns-2 c = one _ _ _ (not-false _ (c .before .if1 .left))
 
@@ -43,4 +34,4 @@ returns-3 c = outside _ _ _ (not-false _ (c .before .if1 .left)) (c .if2 .left)
 
 pub note-spec : {M : Type 1} → statement M
 note-spec =
-    tie.close (tie.spec returns mul-origins slice-write-origins same-length returns-2 returns-3)
+    tie.close (tie.spec returns (λ c. search needs) (λ c. search needs) (λ c. search needs) returns-2 returns-3)

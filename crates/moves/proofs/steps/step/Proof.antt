@@ -7,35 +7,11 @@ use Rattle.moves.proofs.steps.step.Tie as tie
 returns : tie.Need-returns
 returns c = step-none _ _ _ _ (le-leb _ _ (c .if1 .taken))
 
-add-row : tie.Need-add-row
-add-row c = search needs
-
 returns-2 : tie.Need-returns-2
 returns-2 c = step-refused _ _ _ _ (lt-leb _ _ (c .before .before .if1 .left)) (ne-eqb _ _ (c .if2 .taken))
 
-has-room-requires : tie.Need-has-room-requires
-has-room-requires c κs = search needs
-
 returns-3 : tie.Need-returns-3
 returns-3 c = step-full _ _ _ _ (lt-leb _ _ (c .before .before .before .before .if1 .left)) (eq-eqb _ _ (c .before .before .if2 .left)) (c .before .has-room .ensures) (not-true _ (c .if3 .taken))
-
-list-call-requires : tie.Need-list-call-requires
-list-call-requires c κs = search needs
-
-same-length : tie.Need-same-length
-same-length c = search needs
-
-same-length-2 : tie.Need-same-length-2
-same-length-2 c = search needs
-
-same-length-3 : tie.Need-same-length-3
-same-length-3 c = search needs
-
-same-length-4 : tie.Need-same-length-4
-same-length-4 c = search needs
-
-same-length-5 : tie.Need-same-length-5
-same-length-5 c = search needs
 
 returns-4 : tie.Need-returns-4
 returns-4 c =
@@ -51,14 +27,14 @@ step-spec =
     tie.close
     (tie.spec
     returns
-    add-row
+    (λ c. search needs)
     returns-2
-    has-room-requires
+    (λ c κs. search needs)
     returns-3
-    list-call-requires
-    same-length
-    same-length-2
-    same-length-3
-    same-length-4
-    same-length-5
+    (λ c κs. search needs)
+    (λ c. search needs)
+    (λ c. search needs)
+    (λ c. search needs)
+    (λ c. search needs)
+    (λ c. search needs)
     returns-4)

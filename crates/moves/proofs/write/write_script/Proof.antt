@@ -27,15 +27,6 @@ add-made c =
     let h = ltb-true (l .turn) 536870912 (and-eq-true-iff (ltb (l .turn) 536870912) (l .going) .0 (test .taken) .0) in
     omega arith
 
-run-steps-requires : tie.Need-run-steps-requires Inv-loop μ-loop
-run-steps-requires c κs = tt
-
-part-requires : tie.Need-part-requires Inv-loop μ-loop
-part-requires c κs = tt
-
-write-all-requires : tie.Need-write-all-requires Inv-loop μ-loop
-write-all-requires c κs = tt
-
 loop-less : tie.Need-loop-less Inv-loop μ-loop
 loop-less c =
     let test = c .before .before .before .before .before .before .before .before .before .before .before .before .before .before .before .before .before .before .before .before .before .before .before .loop-test in
@@ -64,9 +55,6 @@ same-length-4 c = c .before .loop .inv .3
 same-length-5 : tie.Need-same-length-5 Inv-loop μ-loop
 same-length-5 c = c .before .loop .inv .4
 
-returns : tie.Need-returns Inv-loop μ-loop
-returns c = tt
-
 pub write-script-spec : {M : Type 1} → statement M
 write-script-spec =
     tie.close
@@ -75,9 +63,9 @@ write-script-spec =
     μ-loop
     loop-holds
     add-made
-    run-steps-requires
-    part-requires
-    write-all-requires
+    (λ c κs. tt)
+    (λ c κs. tt)
+    (λ c κs. tt)
     loop-less
     loop-again
     same-length
@@ -85,4 +73,4 @@ write-script-spec =
     same-length-3
     same-length-4
     same-length-5
-    returns)
+    (λ c. tt))

@@ -26,12 +26,6 @@ add-made c =
     let h = ltb-true (l .turn) rows (and-eq-true-iff (ltb (l .turn) rows) (l .going) .0 (test .taken) .0) in
     omega arith
 
-run-rows-requires : tie.Need-run-rows-requires Inv-loop μ-loop
-run-rows-requires c κs = tt
-
-write-text-requires : tie.Need-write-text-requires Inv-loop μ-loop
-write-text-requires c κs = tt
-
 loop-less : tie.Need-loop-less Inv-loop μ-loop
 loop-less c =
     let test = c .before .before .before .before .before .before .before .before .before .before .before .before .before .before .before .before .before .loop-test in
@@ -58,9 +52,6 @@ same-length-3 c = c .before .loop .inv .2
 same-length-4 : tie.Need-same-length-4 Inv-loop μ-loop
 same-length-4 c = c .before .loop .inv .3
 
-returns : tie.Need-returns Inv-loop μ-loop
-returns c = tt
-
 pub write-rows-spec : {M : Type 1} → statement M
 write-rows-spec =
     tie.close
@@ -69,12 +60,12 @@ write-rows-spec =
     μ-loop
     loop-holds
     add-made
-    run-rows-requires
-    write-text-requires
+    (λ c κs. tt)
+    (λ c κs. tt)
     loop-less
     loop-again
     same-length
     same-length-2
     same-length-3
     same-length-4
-    returns)
+    (λ c. tt))

@@ -2,18 +2,6 @@ use Rattle.printout.proofs.Join.{row-joined}
 use Rattle.printout.proofs.row.run_line.Statement.{statement}
 use Rattle.printout.proofs.row.run_line.Tie as tie
 
-row-of-requires : tie.Need-row-of-requires
-row-of-requires c κs = tt
-
-byte-requires : tie.Need-byte-requires
-byte-requires c κs = tt
-
-run-row-requires : tie.Need-run-row-requires
-run-row-requires c κs = tt
-
-put-shown-requires : tie.Need-put-shown-requires
-put-shown-requires c κs = tt
-
 same-length : tie.Need-same-length
 same-length c = c .before .before .before .before .before .before .before .before .before .before .run-row .kept .1 .0
 
@@ -33,10 +21,10 @@ pub run-line-spec : {M : Type 1} → statement M
 run-line-spec =
     tie.close
     (tie.spec
-    row-of-requires
-    byte-requires
-    run-row-requires
-    put-shown-requires
+    (λ c κs. tt)
+    (λ c κs. tt)
+    (λ c κs. tt)
+    (λ c κs. tt)
     same-length
     same-length-2
     same-length-3

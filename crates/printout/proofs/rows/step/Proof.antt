@@ -13,20 +13,11 @@ add-number c = omega (arith, (c .if1 .left))
 mul-part : tie.Need-mul-part
 mul-part c = omega (arith, (c .if1 .left))
 
-part-requires : tie.Need-part-requires
-part-requires c κs = tt
-
 returns-2 : tie.Need-returns-2
 returns-2 c = step-refused _ _ _ _ (lt-leb _ _ (c .before .before .before .if1 .left)) (ne-eqb _ _ (c .if2 .taken))
 
-has-room-requires : tie.Need-has-room-requires
-has-room-requires c κs = tt
-
 returns-3 : tie.Need-returns-3
 returns-3 c = step-full _ _ _ _ (lt-leb _ _ (c .before .before .before .before .before .if1 .left)) (eq-eqb _ _ (c .before .before .if2 .left)) (c .before .has-room .ensures) (not-true _ (c .if3 .taken))
-
-run-line-requires : tie.Need-run-line-requires
-run-line-requires c κs = tt
 
 same-length : tie.Need-same-length
 same-length c = (c .before .before .before .before .before .before .before .before .before .before .run-line .kept .1 .0)
@@ -50,11 +41,11 @@ step-spec =
     returns
     add-number
     mul-part
-    part-requires
+    (λ c κs. tt)
     returns-2
-    has-room-requires
+    (λ c κs. tt)
     returns-3
-    run-line-requires
+    (λ c κs. tt)
     same-length
     same-length-2
     same-length-3

@@ -6,12 +6,6 @@ use borrow.Author.Needs.{needs}
 use Rattle.reader.proofs.letter.digit.Statement.{statement}
 use Rattle.reader.proofs.letter.digit.Tie as tie
 
-sub-result : tie.Need-sub-result
-sub-result c = search needs
-
-sub-result-2 : tie.Need-sub-result-2
-sub-result-2 c = search needs
-
 returns : tie.Need-returns
 unfolding digitOf
 returns c = let a = c .before .before .args in simp (inside 0x30 0x3A (a .c) (c .before .if1 .left) (c .if2 .taken))
@@ -44,8 +38,8 @@ pub digit-spec : {M : Type 1} → statement M
 digit-spec =
     tie.close
     (tie.spec
-    sub-result
-    sub-result-2
+    (λ c. search needs)
+    (λ c. search needs)
     returns
     returns-2
     returns-3

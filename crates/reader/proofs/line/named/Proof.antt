@@ -4,36 +4,21 @@ use borrow.Author.Needs.{needs}
 use Rattle.reader.proofs.line.named.Statement.{statement}
 use Rattle.reader.proofs.line.named.Tie as tie
 
-keyword-requires : tie.Need-keyword-requires
-keyword-requires c κs = search needs
-
 returns : tie.Need-returns
 unfolding namedOf
 returns c = simp (eq-eqb _ _ (c .before .if1 .taken), c .keyword .ensures)
-
-option-requires : tie.Need-option-requires
-option-requires c κs = search needs
 
 returns-2 : tie.Need-returns-2
 unfolding namedOf
 returns-2 c = simp (eq-eqb _ _ (c .before .if2 .taken), ne-eqb _ _ (c .before .before .before .if1 .left), c .option .ensures)
 
-switch-requires : tie.Need-switch-requires
-switch-requires c κs = search needs
-
 returns-3 : tie.Need-returns-3
 unfolding namedOf
 returns-3 c = simp (eq-eqb _ _ (c .before .if3 .taken), ne-eqb _ _ (c .before .before .before .if2 .left), ne-eqb _ _ (c .before .before .before .before .before .if1 .left), c .switch .ensures)
 
-file-requires : tie.Need-file-requires
-file-requires c κs = search needs
-
 returns-4 : tie.Need-returns-4
 unfolding namedOf
 returns-4 c = simp (eq-eqb _ _ (c .before .if4 .taken), ne-eqb _ _ (c .before .before .before .if3 .left), ne-eqb _ _ (c .before .before .before .before .before .if2 .left), ne-eqb _ _ (c .before .before .before .before .before .before .before .if1 .left), c .file .ensures)
-
-failed-requires : tie.Need-failed-requires
-failed-requires c κs = search needs
 
 returns-5 : tie.Need-returns-5
 unfolding namedOf
@@ -43,13 +28,13 @@ pub named-spec : {M : Type 1} → statement M
 named-spec =
     tie.close
     (tie.spec
-    keyword-requires
+    (λ c κs. search needs)
     returns
-    option-requires
+    (λ c κs. search needs)
     returns-2
-    switch-requires
+    (λ c κs. search needs)
     returns-3
-    file-requires
+    (λ c κs. search needs)
     returns-4
-    failed-requires
+    (λ c κs. search needs)
     returns-5)

@@ -4,25 +4,13 @@ use borrow.Author.Needs.{needs}
 use Rattle.reader.proofs.reader.plain.Statement.{statement}
 use Rattle.reader.proofs.reader.plain.Tie as tie
 
-dollar-requires : tie.Need-dollar-requires
-dollar-requires c κs = search needs
-
 returns : tie.Need-returns
 unfolding plainOf
 returns c = simp (eq-eqb _ _ (c .before .if1 .taken), c .dollar .ensures)
 
-colon-requires : tie.Need-colon-requires
-colon-requires c κs = search needs
-
 returns-2 : tie.Need-returns-2
 unfolding plainOf
 returns-2 c = simp (eq-eqb _ _ (c .before .if2 .taken), ne-eqb _ _ (c .before .before .if1 .left), c .colon .ensures)
-
-digit-requires : tie.Need-digit-requires
-digit-requires c κs = search needs
-
-letter-requires : tie.Need-letter-requires
-letter-requires c κs = search needs
 
 returns-3 : tie.Need-returns-3
 unfolding plainOf
@@ -32,10 +20,10 @@ pub plain-spec : {M : Type 1} → statement M
 plain-spec =
     tie.close
     (tie.spec
-    dollar-requires
+    (λ c κs. search needs)
     returns
-    colon-requires
+    (λ c κs. search needs)
     returns-2
-    digit-requires
-    letter-requires
+    (λ c κs. search needs)
+    (λ c κs. search needs)
     returns-3)

@@ -17,26 +17,11 @@ Inv-loop text r₀ i₀ r i = 0 + soundOf startOf text ≡ i + soundOf r (drop i
 abbrev μ-loop : tie.MeasureT-loop
 μ-loop text r₀ i₀ r i = length text - i
 
-start-requires : tie.Need-start-requires Inv-loop μ-loop
-start-requires c κs = tt
-
 loop-holds : tie.Need-loop-holds Inv-loop μ-loop
 loop-holds c = ap (λ (x : Reader). 0 + soundOf x (c .before .before .args .text .now)) (sym (c .start .ensures))
 
-shared-slice-read-c : tie.Need-shared-slice-read-c Inv-loop μ-loop
-shared-slice-read-c c = omega arith
-
-read-requires : tie.Need-read-requires Inv-loop μ-loop
-read-requires c κs = tt
-
 returns : tie.Need-returns Inv-loop μ-loop
 returns c = sym (sym (zero-add _) ∙ (c .before .before .before .before .before .before .loop .inv) ∙ until-here _ _ _ _ (c .before .before .before .before .before .loop-test .taken) (ap (λ (x : Reader). eqb (x .draft .emit) 9) (sym (c .before .before .before .read .ensures)) ∙ eq-eqb _ _ (c .if1 .taken)))
-
-add-i : tie.Need-add-i Inv-loop μ-loop
-add-i c = omega arith
-
-loop-less : tie.Need-loop-less Inv-loop μ-loop
-loop-less c = omega arith
 
 loop-again : tie.Need-loop-again Inv-loop μ-loop
 loop-again c = (c .before .before .before .before .before .before .loop .inv) ∙ until-next _ _ _ _ (c .before .before .before .before .before .loop-test .taken) (c .before .before .before .read .ensures) (ap (λ (x : Reader). eqb (x .draft .emit) 9) (sym (c .before .before .before .read .ensures)) ∙ ne-eqb _ _ (c .if1 .left))
@@ -50,12 +35,12 @@ fault-spec =
     (tie.spec
     Inv-loop
     μ-loop
-    start-requires
+    (λ c κs. tt)
     loop-holds
-    shared-slice-read-c
-    read-requires
+    (λ c. omega arith)
+    (λ c κs. tt)
     returns
-    add-i
-    loop-less
+    (λ c. omega arith)
+    (λ c. omega arith)
     loop-again
     returns-2)

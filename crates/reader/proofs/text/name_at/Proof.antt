@@ -16,26 +16,11 @@ Inv-loop text r₀ i₀ r i = 0 + unnamedOf startOf text ≡ i + unnamedOf r (dr
 abbrev μ-loop : tie.MeasureT-loop
 μ-loop text r₀ i₀ r i = length text - i
 
-start-requires : tie.Need-start-requires Inv-loop μ-loop
-start-requires c κs = tt
-
 loop-holds : tie.Need-loop-holds Inv-loop μ-loop
 loop-holds c = ap (λ (x : Reader). 0 + unnamedOf x (c .before .before .args .text .now)) (sym (c .start .ensures))
 
 returns : tie.Need-returns Inv-loop μ-loop
 returns c = sym (sym (zero-add _) ∙ (c .before .before .before .before .loop .inv) ∙ until-here _ _ _ _ (c .before .before .before .loop-test .taken) (eq-eqb _ _ (c .if1 .taken)))
-
-shared-slice-read-c : tie.Need-shared-slice-read-c Inv-loop μ-loop
-shared-slice-read-c c = omega arith
-
-read-requires : tie.Need-read-requires Inv-loop μ-loop
-read-requires c κs = tt
-
-add-i : tie.Need-add-i Inv-loop μ-loop
-add-i c = omega arith
-
-loop-less : tie.Need-loop-less Inv-loop μ-loop
-loop-less c = omega arith
 
 loop-again : tie.Need-loop-again Inv-loop μ-loop
 loop-again c = (c .before .before .before .before .before .before .loop .inv) ∙ until-next _ _ _ _ (c .before .before .before .before .before .loop-test .taken) (c .read .ensures) (ne-eqb _ _ (c .before .before .if1 .left))
@@ -49,12 +34,12 @@ name-at-spec =
     (tie.spec
     Inv-loop
     μ-loop
-    start-requires
+    (λ c κs. tt)
     loop-holds
     returns
-    shared-slice-read-c
-    read-requires
-    add-i
-    loop-less
+    (λ c. omega arith)
+    (λ c κs. tt)
+    (λ c. omega arith)
+    (λ c. omega arith)
     loop-again
     returns-2)

@@ -4,24 +4,9 @@ use borrow.Author.Needs.{needs}
 use Rattle.reader.proofs.word.letter.Statement.{statement}
 use Rattle.reader.proofs.word.letter.Tie as tie
 
-opened-requires : tie.Need-opened-requires
-opened-requires c κs = search needs
-
-base-requires : tie.Need-base-requires
-base-requires c κs = search needs
-
-after-requires : tie.Need-after-requires
-after-requires c κs = search needs
-
-grown-requires : tie.Need-grown-requires
-grown-requires c κs = search needs
-
 returns : tie.Need-returns
 unfolding letterOf
 returns c = simp (rw ((c .before .before .before .base .ensures), (c .before .before .before .before .opened .ensures)) at (lt-ltb _ _ (c .before .before .if1 .taken)), (c .grown .ensures), (c .before .after .ensures), (c .before .before .before .base .ensures), (c .before .before .before .before .opened .ensures))
-
-blank-requires : tie.Need-blank-requires
-blank-requires c κs = search needs
 
 returns-2 : tie.Need-returns-2
 unfolding letterOf
@@ -31,10 +16,10 @@ pub letter-spec : {M : Type 1} → statement M
 letter-spec =
     tie.close
     (tie.spec
-    opened-requires
-    base-requires
-    after-requires
-    grown-requires
+    (λ c κs. search needs)
+    (λ c κs. search needs)
+    (λ c κs. search needs)
+    (λ c κs. search needs)
     returns
-    blank-requires
+    (λ c κs. search needs)
     returns-2)

@@ -7,24 +7,6 @@ use Rattle.script.proofs.repeat.cycle_step.Tie as tie
 returns : tie.Need-returns
 returns c = cycle-stopped _ _ _ _ _ (ne-eqb _ _ (c .if1 .taken))
 
-cycle-requires : tie.Need-cycle-requires
-cycle-requires c κs = search needs
-
-plus-one-requires : tie.Need-plus-one-requires
-plus-one-requires c κs = search needs
-
-plus-one-requires-2 : tie.Need-plus-one-requires-2
-plus-one-requires-2 c κs = search needs
-
-same-length : tie.Need-same-length
-same-length c = search needs
-
-same-length-2 : tie.Need-same-length-2
-same-length-2 c = search needs
-
-same-length-3 : tie.Need-same-length-3
-same-length-3 c = search needs
-
 returns-2 : tie.Need-returns-2
 returns-2 c = cycle-goes _ _ _ _ _ (eq-eqb _ _ (c .before .before .before .before .before .before .before .before .before .before .before .before .before .before .before .if1 .left)) (c .before .before .before .before .before .before .before .before .before .before .cycle .ensures) (c .before .plus-one .ensures) (c .plus-one2 .ensures)
 
@@ -33,10 +15,10 @@ cycle-step-spec =
     tie.close
     (tie.spec
     returns
-    cycle-requires
-    plus-one-requires
-    plus-one-requires-2
-    same-length
-    same-length-2
-    same-length-3
+    (λ c κs. search needs)
+    (λ c κs. search needs)
+    (λ c κs. search needs)
+    (λ c. search needs)
+    (λ c. search needs)
+    (λ c. search needs)
     returns-2)

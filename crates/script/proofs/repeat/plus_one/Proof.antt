@@ -2,9 +2,6 @@ use borrow.Author.Needs.{needs}
 use Rattle.script.proofs.repeat.plus_one.Statement.{statement}
 use Rattle.script.proofs.repeat.plus_one.Tie as tie
 
-wrapping-add-u32-requires : tie.Need-wrapping-add-u32-requires
-wrapping-add-u32-requires c κs = search needs
-
 returns : tie.Need-returns
 returns c = simp (c .before .if1 .taken, c .wrapping-add-u32 .ensures)
 
@@ -12,4 +9,4 @@ returns-2 : tie.Need-returns-2
 returns-2 c = simp (c .if1 .left)
 
 pub plus-one-spec : {M : Type 1} → statement M
-plus-one-spec = tie.close (tie.spec wrapping-add-u32-requires returns returns-2)
+plus-one-spec = tie.close (tie.spec (λ c κs. search needs) returns returns-2)

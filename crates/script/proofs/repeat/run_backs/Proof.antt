@@ -21,15 +21,6 @@ loop-holds : tie.Need-loop-holds Inv-loop μ-loop
 unfolding backsRun
 loop-holds c = going-start refl
 
-back-step-requires : tie.Need-back-step-requires Inv-loop μ-loop
-back-step-requires c κs = tt
-
-add-i : tie.Need-add-i Inv-loop μ-loop
-add-i c = omega arith
-
-loop-less : tie.Need-loop-less Inv-loop μ-loop
-loop-less c = omega arith
-
 loop-again : tie.Need-loop-again Inv-loop μ-loop
 unfolding backsRun
 loop-again c = going-on (c .before .before .before .before .before .before .before .before .before .before .before .loop .inv) (c .before .before .before .before .before .before .before .before .before .before .loop-test .taken) backStep (c .before .before .before .before .before .before .back-step .ensures) refl ((c .before .before .before .before .before .before .back-step .kept .1 .0) also (c .before .before .before .before .before .before .back-step .kept .1 .1 .0) also (c .before .before .before .before .before .before .back-step .kept .1 .1 .1 .0) also tt)
@@ -53,9 +44,9 @@ run-backs-spec =
     Inv-loop
     μ-loop
     loop-holds
-    back-step-requires
-    add-i
-    loop-less
+    (λ c κs. tt)
+    (λ c. omega arith)
+    (λ c. omega arith)
     loop-again
     same-length
     same-length-2

@@ -21,23 +21,8 @@ loop-holds : tie.Need-loop-holds Inv-loop μ-loop
 unfolding cyclesRun
 loop-holds c = going-start refl
 
-first-of-requires : tie.Need-first-of-requires Inv-loop μ-loop
-first-of-requires c κs = tt
-
-first-flag-requires : tie.Need-first-flag-requires Inv-loop μ-loop
-first-flag-requires c κs = tt
-
-first-flag-requires-2 : tie.Need-first-flag-requires-2 Inv-loop μ-loop
-first-flag-requires-2 c κs = tt
-
-cycle-step-requires : tie.Need-cycle-step-requires Inv-loop μ-loop
-cycle-step-requires c κs = tt
-
 add-i : tie.Need-add-i Inv-loop μ-loop
 add-i c = omega (arith, (c .before .before .before .before .before .before .before .before .before .before .before .before .before .loop-test .taken), (c .before .before .before .before .before .before .before .before .before .before .before .before .before .before .before .before .before .before .before .fits .count .fits))
-
-loop-less : tie.Need-loop-less Inv-loop μ-loop
-loop-less c = omega arith
 
 loop-again : tie.Need-loop-again Inv-loop μ-loop
 unfolding cyclesRun
@@ -62,12 +47,12 @@ run-cycles-spec =
     Inv-loop
     μ-loop
     loop-holds
-    first-of-requires
-    first-flag-requires
-    first-flag-requires-2
-    cycle-step-requires
+    (λ c κs. tt)
+    (λ c κs. tt)
+    (λ c κs. tt)
+    (λ c κs. tt)
     add-i
-    loop-less
+    (λ c. omega arith)
     loop-again
     same-length
     same-length-2

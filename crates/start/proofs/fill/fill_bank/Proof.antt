@@ -27,12 +27,6 @@ rem-bank c = omega (arith, (c .before .before .if1 .left))
 shared-slice-read-bank : tie.Need-shared-slice-read-bank Inv-loop μ-loop
 shared-slice-read-bank c = mod-lt _ (omega (arith, (c .before .before .before .if1 .left)))
 
-slice-write-bank : tie.Need-slice-write-bank Inv-loop μ-loop
-slice-write-bank c = omega arith
-
-add-i : tie.Need-add-i Inv-loop μ-loop
-add-i c = omega arith
-
 loop-less : tie.Need-loop-less Inv-loop μ-loop
 loop-less c = omega (arith, (c .before .before .loop .inv), (c .before .loop-test .taken))
 
@@ -64,8 +58,8 @@ fill-bank-spec =
     loop-holds
     rem-bank
     shared-slice-read-bank
-    slice-write-bank
-    add-i
+    (λ c. omega arith)
+    (λ c. omega arith)
     loop-less
     loop-again
     same-length

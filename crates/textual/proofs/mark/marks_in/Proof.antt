@@ -17,21 +17,6 @@ loop-holds : tie.Need-loop-holds Inv-loop μ-loop
 unfolding marksOf
 loop-holds c = refl
 
-add-i : tie.Need-add-i Inv-loop μ-loop
-add-i c = omega arith
-
-shared-slice-read-wanted : tie.Need-shared-slice-read-wanted Inv-loop μ-loop
-shared-slice-read-wanted c = omega arith
-
-wanted-requires : tie.Need-wanted-requires Inv-loop μ-loop
-wanted-requires c κs = tt
-
-passed-requires : tie.Need-passed-requires Inv-loop μ-loop
-passed-requires c κs = tt
-
-loop-less : tie.Need-loop-less Inv-loop μ-loop
-loop-less c = omega arith
-
 loop-again : tie.Need-loop-again Inv-loop μ-loop
 loop-again c =
     (c .before .before .before .before .loop .inv)
@@ -47,10 +32,10 @@ marks-in-spec =
     Inv-loop
     μ-loop
     loop-holds
-    add-i
-    shared-slice-read-wanted
-    wanted-requires
-    passed-requires
-    loop-less
+    (λ c. omega arith)
+    (λ c. omega arith)
+    (λ c κs. tt)
+    (λ c κs. tt)
+    (λ c. omega arith)
     loop-again
     returns)

@@ -3,24 +3,6 @@ use borrow.Author.Needs.{needs}
 use Rattle.textual.proofs.name.name_in.Statement.{statement}
 use Rattle.textual.proofs.name.name_in.Tie as tie
 
-part-requires : tie.Need-part-requires
-part-requires c κs = search needs
-
-marks-in-requires : tie.Need-marks-in-requires
-marks-in-requires c κs = search needs
-
-part-requires-2 : tie.Need-part-requires-2
-part-requires-2 c κs = search needs
-
-marks-in-requires-2 : tie.Need-marks-in-requires-2
-marks-in-requires-2 c κs = search needs
-
-part-requires-3 : tie.Need-part-requires-3
-part-requires-3 c κs = search needs
-
-part-requires-4 : tie.Need-part-requires-4
-part-requires-4 c κs = search needs
-
 returns : tie.Need-returns
 unfolding nameOf
 returns c =
@@ -42,10 +24,10 @@ pub name-in-spec : {M : Type 1} → statement M
 name-in-spec =
     tie.close
     (tie.spec
-    part-requires
-    marks-in-requires
-    part-requires-2
-    marks-in-requires-2
-    part-requires-3
-    part-requires-4
+    (λ c κs. search needs)
+    (λ c κs. search needs)
+    (λ c κs. search needs)
+    (λ c κs. search needs)
+    (λ c κs. search needs)
+    (λ c κs. search needs)
     returns)

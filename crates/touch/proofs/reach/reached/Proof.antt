@@ -3,21 +3,6 @@ use borrow.Author.Needs.{needs}
 use Rattle.touch.proofs.reach.reached.Statement.{statement}
 use Rattle.touch.proofs.reach.reached.Tie as tie
 
-route-of-requires : tie.Need-route-of-requires
-route-of-requires c κs = search needs
-
-place-of-requires : tie.Need-place-of-requires
-place-of-requires c κs = search needs
-
-spot-requires : tie.Need-spot-requires
-spot-requires c κs = search needs
-
-own-of-requires : tie.Need-own-of-requires
-own-of-requires c κs = search needs
-
-wm-after-requires : tie.Need-wm-after-requires
-wm-after-requires c κs = search needs
-
 returns : tie.Need-returns
 unfolding reachOf wmAfter
 returns c = simp (c .wm-after .ensures, c .before .own-of .ensures, c .before .before .spot .ensures, c .before .before .before .place-of .ensures, c .before .before .before .before .route-of .ensures)
@@ -26,9 +11,9 @@ pub reached-spec : {M : Type 1} → statement M
 reached-spec =
     tie.close
     (tie.spec
-    route-of-requires
-    place-of-requires
-    spot-requires
-    own-of-requires
-    wm-after-requires
+    (λ c κs. search needs)
+    (λ c κs. search needs)
+    (λ c κs. search needs)
+    (λ c κs. search needs)
+    (λ c κs. search needs)
     returns)

@@ -5,15 +5,6 @@ use borrow.Author.Needs.{needs}
 use Rattle.touch.proofs.reach.wm_written.Statement.{statement}
 use Rattle.touch.proofs.reach.wm_written.Tie as tie
 
-with-low-requires : tie.Need-with-low-requires
-with-low-requires c κs = search needs
-
-with-high-requires : tie.Need-with-high-requires
-with-high-requires c κs = search needs
-
-bank-from-requires : tie.Need-bank-from-requires
-bank-from-requires c κs = search needs
-
 returns : tie.Need-returns
 returns c = simp (c .before .match .keys1, c .with-low .ensures)
 
@@ -30,9 +21,9 @@ pub wm-written-spec : {M : Type 1} → statement M
 wm-written-spec =
     tie.close
     (tie.spec
-    with-low-requires
-    with-high-requires
-    bank-from-requires
+    (λ c κs. search needs)
+    (λ c κs. search needs)
+    (λ c κs. search needs)
     returns
     returns-2
     returns-3

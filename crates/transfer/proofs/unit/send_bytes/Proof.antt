@@ -14,18 +14,6 @@ abbrev μ-loop : tie.MeasureT-loop
 loop-holds : tie.Need-loop-holds Inv-loop μ-loop
 loop-holds c = sending-none _ _ _ _ _ _ (c .before .before .before .fits .addr .fits)
 
-unit-byte-requires : tie.Need-unit-byte-requires Inv-loop μ-loop
-unit-byte-requires c κs = tt
-
-inc16-requires : tie.Need-inc16-requires Inv-loop μ-loop
-inc16-requires c κs = tt
-
-add-i : tie.Need-add-i Inv-loop μ-loop
-add-i c = omega arith
-
-loop-less : tie.Need-loop-less Inv-loop μ-loop
-loop-less c = omega arith
-
 loop-again : tie.Need-loop-again Inv-loop μ-loop
 loop-again c = sending-more _ _ _ _ _ _ (c .before .before .before .before .before .before .before .before .before .loop .inv) (c .before .before .before .before .before .before .before .before .loop-test .taken) (c .before .before .before .before .before .unit-byte .ensures) (c .inc16 .ensures) (c .before .before .before .before .before .unit-byte .kept .1 .0) (c .before .before .before .before .before .unit-byte .kept .1 .1 .0)
 
@@ -45,10 +33,10 @@ send-bytes-spec =
     Inv-loop
     μ-loop
     loop-holds
-    unit-byte-requires
-    inc16-requires
-    add-i
-    loop-less
+    (λ c κs. tt)
+    (λ c κs. tt)
+    (λ c. omega arith)
+    (λ c. omega arith)
     loop-again
     same-length
     same-length-2

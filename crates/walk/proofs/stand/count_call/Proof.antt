@@ -3,15 +3,9 @@ use borrow.Author.Needs.{needs}
 use Rattle.walk.proofs.stand.count_call.Statement.{statement}
 use Rattle.walk.proofs.stand.count_call.Tie as tie
 
-up-by-requires : tie.Need-up-by-requires
-up-by-requires c κs = search needs
-
-up-by-requires-2 : tie.Need-up-by-requires-2
-up-by-requires-2 c κs = search needs
-
 returns : tie.Need-returns
 unfolding counted
 returns c = simp ((c .before .up-by .ensures), (c .up-by2 .ensures))
 
 pub count-call-spec : {M : Type 1} → statement M
-count-call-spec = tie.close (tie.spec up-by-requires up-by-requires-2 returns)
+count-call-spec = tie.close (tie.spec (λ c κs. search needs) (λ c κs. search needs) returns)

@@ -8,12 +8,9 @@ returns : tie.Need-returns
 unfolding onward
 returns c = simp (lt-ltb _ _ (c .if1 .taken))
 
-wrapping-add-usize-requires : tie.Need-wrapping-add-usize-requires
-wrapping-add-usize-requires c κs = search needs
-
 returns-2 : tie.Need-returns-2
 unfolding onward
 returns-2 c = simp (le-ltb _ _ (c .before .if1 .left), c .wrapping-add-usize .ensures)
 
 pub go-on-spec : {M : Type 1} → statement M
-go-on-spec = tie.close (tie.spec returns wrapping-add-usize-requires returns-2)
+go-on-spec = tie.close (tie.spec returns (λ c κs. search needs) returns-2)

@@ -13,8 +13,9 @@ use crate::SLOT;
 use bench::Bench;
 use decode::machine_at;
 use fields::eight_bytes;
+use fields::join8;
 use fields::put;
-use fields::word::four;
+use fields::word::byte;
 use image::entry_bytes;
 use layout::IMAGE_SIZE;
 use layout::OLD_COUNT;
@@ -55,9 +56,16 @@ pub fn eight(s: &[u8], at: usize) -> u64
     if s.len() <= at {
         return 0;
     }
-    let low = four(s, at);
-    let high = four(s, at + 4);
-    high as u64 * 4294967296 + low as u64
+    join8(
+        byte(s, at),
+        byte(s, at + 1),
+        byte(s, at + 2),
+        byte(s, at + 3),
+        byte(s, at + 4),
+        byte(s, at + 5),
+        byte(s, at + 6),
+        byte(s, at + 7),
+    )
 }
 
 pub fn slot_at(s: &[u8]) -> usize

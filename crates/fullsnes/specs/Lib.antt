@@ -1,2 +1,2 @@
--- What Fullsnes says of transfers and tables.
+-- What is generally known of the console's transfers and tables; Fullsnes, which describes them, was not at hand.
 pub mod Said

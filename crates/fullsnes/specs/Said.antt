@@ -1,5 +1,5 @@
--- Transfers and HDMA tables as the console's documents put them (Fullsnes, "SNES DMA and HDMA"; document 01, "From src/dma.rs"):
--- patterns as a table, DAS as a count, A1T as an address in its bank, an entry of a table as a number of lines.
+-- Transfers and HDMA tables as the console is generally known (document 01, "From src/dma.rs"; Fullsnes was not at hand): patterns as a
+-- table, DAS as a count, A1T as an address in its bank, an entry of a table as a number of lines.
 use Prim.Native.Nat.{ℕ, zero, suc, _%_, _<_}
 use mathlib.Core.Bool.{Bool, true}
 use mathlib.Core.List.{List, [], _∷_}

@@ -7,12 +7,8 @@ use native.Mathlib.Omega.{arith}
 use borrow.Author.Tests.{le-leb}
 use lib.ListN.{length, getD, take, drop, take-append-drop}
 use lib.Seq.{getD-take}
-use Rattle.decode.specs.Decode.{num}
-use Rattle.fields.specs.Bytes.{byteAt}
-use Rattle.fields.specs.Little.{joined, span}
-use Rattle.fields.specs.Patch.{patched}
-use Rattle.fields.specs.Table.{follow, numberAt}
-use Rattle.layout.specs.Layout.{imageSize}
+use Rattle.fields.specs.{Bytes.byteAt, Little.joined, Little.span, Patch.patched, Table.follow, Table.numberAt}
+use Rattle.layout.specs.Layout.{num, imageSize}
 use Rattle.layout.specs.Layout as the
 use Rattle.asbytes.specs.Machine.{headOf}
 use Rattle.asbytes.specs.Places.{beside, ofBeside, machineSize}

@@ -4,11 +4,9 @@ use mathlib.Core.Bool.{Bool}
 use mathlib.Core.List.{List, _++_}
 use lib.ListN.{getD}
 use Rattle.bus.specs.Access.{noAccess}
-use Rattle.bus.specs.declared.access.Access.{Access}
-use Rattle.bus.specs.declared.access.Log.{Log}
-use Rattle.fields.specs.Little.{le}
-use Rattle.fields.specs.Patch.{patched}
-use Rattle.image.specs.Groups.{byte, flag, rows}
+use Rattle.bus.specs.declared.{access.Access.Access, access.Log.Log}
+use Rattle.fields.specs.{Little.le, Patch.patched, Table.times}
+use Rattle.image.specs.Groups.{byte, flag}
 
 -- an access: 1 for a write, bank, address, byte
 abbrev pub encAccess : Access → List ℕ
@@ -16,7 +14,7 @@ encAccess a = flag (a .write) ++ byte (a .bank) ++ le 2 (a .addr) ++ byte (a .by
 
 -- eleven of them
 abbrev pub encAccesses : List Access → List ℕ
-encAccesses l = rows 11 (λ i. encAccess (getD l i noAccess))
+encAccesses l = times 11 (λ i. encAccess (getD l i noAccess))
 
 -- where they begin
 abbrev pub accessesPlace : ℕ

@@ -2,8 +2,7 @@
 use Prim.Native.Nat.{ℕ}
 use mathlib.Core.List.{List}
 use Rattle.bench.specs.Calls.{Desk, CycleOut}
-use Rattle.asbytes.specs.Answer.{answered}
-use Rattle.asbytes.specs.Machine.{saved}
+use Rattle.asbytes.specs.{Answer.answered, Machine.saved}
 
 pub record Crossed : Type 0 where
   pub number : ℕ

@@ -7,12 +7,11 @@ use lib.ListN.{length, take, replicate}
 use Rattle.common.specs.Pick.{pick}
 use Rattle.bench.specs.Ring.{bench}
 use Rattle.bench.specs.declared.Bench.{Bench}
-use Rattle.decode.specs.Decode.{num, machineAt}
-use Rattle.fields.specs.Little.{le}
-use Rattle.fields.specs.Patch.{patched}
+use Rattle.decode.specs.Decode.{machineAt}
+use Rattle.fields.specs.{Little.le, Patch.patched}
 use Rattle.image.specs.Encode.{encode}
 use Rattle.layout.specs.Layout as the
-use Rattle.layout.specs.Layout.{imageSize}
+use Rattle.layout.specs.Layout.{num, imageSize}
 use Rattle.ranges.specs.Entry.{entryOk}
 use Rattle.state.specs.declared.Machine.{Machine}
 use Rattle.wram.specs.Olds.{noOlds}

@@ -5,25 +5,21 @@ use mathlib.Core.List.{List}
 use mathlib.Core.Path.{_≡_}
 use lib.Dec.{eqb}
 use lib.ListN.{length}
-use Rattle.bus.specs.Access.{noLog, opened}
-use Rattle.bus.specs.Route.{costOf}
+use Rattle.bus.specs.{Access.noLog, Access.opened, Route.costOf}
 use Rattle.bus.specs.World.{World, Reading, readAt, writeAt}
-use Rattle.bus.specs.declared.access.Core.{Core}
-use Rattle.bus.specs.declared.access.Log.{Log}
+use Rattle.bus.specs.declared.{access.Core.Core, access.Log.Log}
 use Rattle.entry.specs.Entry.{decodeAt}
 use Rattle.entry.specs.declared.Decoded.{Decoded}
 use Rattle.layout.specs.Layout.{capacity}
 use Rattle.machine.specs.Cycle.{Turned, machineAfter, cycled}
 use Rattle.machine.specs.declared.event.Event.{Event}
 use Rattle.state.specs.declared.Machine.{Machine}
-use Rattle.wram.specs.Banks.{Banks}
-use Rattle.wram.specs.Olds.{putBack}
+use Rattle.wram.specs.{Banks.Banks, Olds.putBack}
 use Rattle.bench.specs.Calls.{Desk, lentOf, eventOf, CycleOut, cycleCall, ReadOut, readCall, WriteOut, writeCall, PlainOut, Hosting, hosted, onBanks, padCall, plugCall, answerCall, backCall, emptyBench, freshCall}
 use Rattle.bench.specs.Host.{withIo, padSet, plugSet, answerSet}
 use Rattle.bench.specs.Refusal.{cycleNumber, portNumber, addressNumber, backNumber, freshNumber}
 use Rattle.bench.specs.Ring.{before, bench, Noted, noted}
-use Rattle.bench.specs.declared.Bench.{Bench}
-use Rattle.bench.specs.declared.operate.Answer.{Answer}
+use Rattle.bench.specs.declared.{Bench.Bench, operate.Answer.Answer}
 
 module _ (rom : List ℕ) (d : Desk) {lent : ℕ} (p : lent ≡ lentOf d (length rom)) where
   module _ (event : ℕ) (line timer : Bool) {n : ℕ} (q : n ≡ cycleNumber lent (d .bench) event) where

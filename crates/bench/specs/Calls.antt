@@ -7,8 +7,7 @@ use lib.Dec.{eqb}
 use lib.ListN.{length}
 use Rattle.common.specs.Pick.{pick}
 use Rattle.common.specs.Table.{Entry, at, find}
-use Rattle.bus.specs.Access.{noLog, opened}
-use Rattle.bus.specs.Route.{costOf}
+use Rattle.bus.specs.{Access.noLog, Access.opened, Route.costOf}
 use Rattle.bus.specs.World.{World, Reading, readAt, writeAt}
 use Rattle.bus.specs.declared.access.Log.{Log}
 use Rattle.entry.specs.Entry.{decodeAt}
@@ -16,20 +15,15 @@ use Rattle.entry.specs.declared.Decoded.{Decoded}
 use Rattle.layout.specs.Layout.{capacity}
 use Rattle.machine.specs.Cycle.{Turned, machineAfter, cycled}
 use Rattle.machine.specs.PowerOn.{powerOnMachine}
-use Rattle.machine.specs.declared.cycle.Turn.{Turn}
-use Rattle.machine.specs.declared.event.Event.{Event}
+use Rattle.machine.specs.declared.{cycle.Turn.Turn, event.Event.Event}
 use Rattle.machine.specs.declared.event.Event.the-variants.{Nothing, HBlankStart, NormalLine, VBlankStart, FrameStart}
 use Rattle.state.specs.declared.Machine.{Machine}
-use Rattle.wram.specs.Banks.{Banks, banks}
-use Rattle.wram.specs.Olds.{noOlds, putBack}
+use Rattle.wram.specs.{Banks.Banks, Banks.banks, Olds.noOlds, Olds.putBack}
 use Rattle.wram.specs.declared.Olds.{Olds}
 use Rattle.bench.specs.Host.{withIo, padSet, plugSet, answerSet}
 use Rattle.bench.specs.Refusal.{lentNumber, cycleNumber, portNumber, addressNumber, backNumber, freshNumber}
 use Rattle.bench.specs.Ring.{before, bench, Noted, noting, noted}
-use Rattle.bench.specs.declared.Bench.{Bench}
-use Rattle.bench.specs.declared.operate.Answer.{Answer}
-use Rattle.bench.specs.declared.operate.CycleAnswer.{CycleAnswer}
-use Rattle.bench.specs.declared.operate.ReadAnswer.{ReadAnswer}
+use Rattle.bench.specs.declared.{Bench.Bench, operate.Answer.Answer, operate.CycleAnswer.CycleAnswer, operate.ReadAnswer.ReadAnswer}
 use Rattle.bench.specs.declared.operate.WriteAnswer.{WriteAnswer}
 
 -- what a call is given and leaves: the machine with its counts, both banks, the record's bytes

@@ -3,8 +3,7 @@ use Prim.Native.Nat.{ℕ, _-_}
 use mathlib.Core.Bool.{Bool}
 use lib.Dec.{eqb}
 use lib.ListN.{set}
-use Rattle.common.specs.Pick.{pick}
-use Rattle.common.specs.Range.{within}
+use Rattle.common.specs.{Pick.pick, Range.within}
 use Rattle.joypad.specs.Port.{buttonsOf}
 use Rattle.joypad.specs.declared.ControllerPort.{ControllerPort}
 use Rattle.registers.specs.Groups.{withIo-pads, withIo-ports, withPads-port1, withPads-port2, withPorts-ppu, withPorts-apu}

@@ -6,13 +6,11 @@ use native.Mathlib.Omega.{arith}
 use lib.ListN.{length, take, drop, length-take, length-drop}
 use lib.Seq.{take-add, take-length, drop-drop}
 use Rattle.common.proofs.AllLaws.{byte-fits}
-use Rattle.fields.specs.Little.{le, field}
-use Rattle.fields.proofs.Number.{span-back}
-use Rattle.fields.specs.Bytes.{partOf}
+use Rattle.fields.specs.{Little.le, Little.field, Bytes.partOf}
+use Rattle.fields.proofs.{Number.span-back, Parts.listed}
 use Rattle.common.specs.Width.{Bytes}
 use Rattle.benchfile.specs.File.{startOf, sizeOf, endOf, bodyOf}
 use Rattle.benchfile.specs.Build.{contentsOf, build}
-use Rattle.fields.proofs.Parts.{listed}
 use Rattle.benchfile.proofs.Facts.{Facts}
 
 -- n numbers of four bytes, from place k on

@@ -5,12 +5,10 @@ use mathlib.Core.List.{List, [], _++_, append-assoc, append-nil}
 use mathlib.Core.Path.{_≡_, refl, sym, ap, _∙_}
 use native.Mathlib.Omega.{arith}
 use lib.ListN.{length, length-append}
-use Rattle.fields.specs.Little.{le, joined}
-use Rattle.fields.proofs.Number.{number}
-use Rattle.fields.specs.Bytes.{partOf}
+use Rattle.fields.specs.{Little.le, Little.joined, Bytes.partOf}
+use Rattle.fields.proofs.{Number.number, Parts.part-at}
 use Rattle.benchfile.specs.File.{startOf, sizeOf, bodyOf, scriptFormed, sound}
 use Rattle.benchfile.specs.Build.{contentsOf, build}
-use Rattle.fields.proofs.Parts.{part-at}
 use Rattle.benchfile.proofs.Facts.{sound-by}
 
 module _ (s f r c : List ℕ) where

@@ -6,16 +6,14 @@ use mathlib.Core.Path.{_≡_, refl, ap, _∙_}
 use native.Mathlib.Omega.{arith}
 use lib.ListN.{length, getD}
 use borrow.Author.Tests.{le-leb}
-use Rattle.common.specs.Pick.{pick}
+use Rattle.common.specs.{Pick.pick, Width.Bytes}
 use Rattle.benchfile.specs.declared.row.Row.the-variants.{Broken}
-use Rattle.common.specs.Width.{Bytes}
 use Rattle.benchfile.specs.Row.{rowAt}
 use Rattle.benchfile.specs.File.{startOf, sizeOf, bodyOf, sound, fileCheck, sectionNumber, sectionOf}
 use Rattle.benchfile.specs.Build.{scriptOf, build, Bench}
 use Rattle.benchfile.proofs.Scripts.{rowsOf, script-row, script-formed, script-back, rows-lawful}
 use Rattle.fields.proofs.Parts.{part-bytes}
-use Rattle.benchfile.proofs.Facts.{facts}
-use Rattle.benchfile.proofs.Apart.{body-length, apart}
+use Rattle.benchfile.proofs.{Facts.facts, Apart.body-length, Apart.apart}
 use Rattle.benchfile.proofs.Built.{body-0, body-1, body-2, body-3, sound-build}
 
 -- file check gives 0 where the file is sound, and only there

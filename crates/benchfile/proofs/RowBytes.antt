@@ -9,22 +9,15 @@ use lib.ListN.{length}
 use lib.Seq.{take-all}
 use lib.Dec.{leb, eqb}
 use borrow.Author.Tests.{leb-true, eqb-true}
-use Rattle.common.specs.Pick.{pick}
-use Rattle.common.specs.Table.{find}
+use Rattle.common.specs.{Pick.pick, Table.find, Width.Bytes}
 use Rattle.benchfile.specs.declared.row.Row.{Row}
 use Rattle.benchfile.specs.declared.row.Row.the-variants.{Cycles, Read, Write, Pad, Plug, Answer, Back, Broken}
-use Rattle.common.proofs.AllLaws.{byte-fits}
-use Rattle.common.proofs.TableLaws.{pick-elim, find-elim}
-use Rattle.fields.specs.Little.{span, field}
-use Rattle.fields.proofs.Flag.{flag-back}
-use Rattle.fields.proofs.Number.{number, field-below}
-use Rattle.fields.specs.Bytes.{byteAt}
-use Rattle.common.specs.Width.{Bytes}
+use Rattle.common.proofs.{AllLaws.byte-fits, TableLaws.pick-elim, TableLaws.find-elim}
+use Rattle.fields.specs.{Little.span, Little.field, Bytes.byteAt}
+use Rattle.fields.proofs.{Flag.flag-back, Number.number, Number.field-below, Parts.listed}
 use Rattle.benchfile.specs.Row.{zeros, formTable, formedRow, fieldTable, fieldsOf, rowOf, bytesOf, FitRow, lawful}
 use Rattle.benchfile.proofs.Numbers.{lo-back, hi-back, flags-small, due-back, timer-back, flags-back}
-use Rattle.fields.proofs.Parts.{listed}
-use Rattle.benchfile.proofs.Zeros.{are}
-use Rattle.benchfile.proofs.Found.{Holds, found}
+use Rattle.benchfile.proofs.{Zeros.are, Found.Holds, Found.found}
 
 pub eight : (r : Row) → length (bytesOf r) ≡ 8
 unfolding bytesOf

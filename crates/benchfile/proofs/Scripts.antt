@@ -6,12 +6,10 @@ use mathlib.Core.Path.{_≡_, refl, sym, ap, _∙_}
 use native.Mathlib.Omega.{arith}
 use lib.ListN.{length, getD, drop, length-append, take-append-drop, drop-of-length-le}
 use lib.Seq.{take-at, drop-append-add, drop-drop}
-use Rattle.benchfile.specs.declared.row.Row.{Row}
-use Rattle.benchfile.specs.declared.row.Row.the-variants.{Broken}
+use Rattle.benchfile.specs.declared.{row.Row.Row, row.Row.the-variants.Broken}
 use Rattle.common.specs.Width.{Bytes}
 use Rattle.benchfile.specs.Row.{formedRow, rowBytes, rowAt, bytesOf, FitRow, lawful}
-use Rattle.benchfile.specs.File.{scriptFormed}
-use Rattle.benchfile.specs.Build.{Lawful, scriptOf}
+use Rattle.benchfile.specs.{File.scriptFormed, Build.Lawful, Build.scriptOf}
 use Rattle.fields.proofs.Parts.{part-bytes}
 use Rattle.benchfile.proofs.Rows.{all, past, whole, script}
 use Rattle.benchfile.proofs.RowBytes.{eight, formed-bytes, row-bytes, row-fits, bytes-row}

@@ -5,8 +5,7 @@ use mathlib.Core.List.{List, []}
 use lib.ListN.{length}
 use lib.Dec.{leb, eqb}
 use Rattle.common.specs.Pick.{pick}
-use Rattle.fields.specs.Little.{field}
-use Rattle.fields.specs.Bytes.{partOf}
+use Rattle.fields.specs.{Little.field, Bytes.partOf}
 use Rattle.benchfile.specs.Row.{formedRow, rowBytes}
 
 -- contents first, a row of 8 bytes for each section: where it starts (4 bytes)

@@ -5,11 +5,9 @@ use mathlib.Core.List.{List, [], _∷_, _++_}
 use lib.ListN.{length, drop, replicate}
 use lib.Dec.{leb, eqb}
 use mir.Val.{boolByte}
-use Rattle.common.specs.Pick.{pick}
-use Rattle.common.specs.Width.{Word}
+use Rattle.common.specs.{Pick.pick, Width.Word}
 use Rattle.common.specs.Table.{Entry, find, at}
-use Rattle.fields.specs.Little.{le, field}
-use Rattle.fields.specs.Bytes.{byteAt, partOf}
+use Rattle.fields.specs.{Little.le, Little.field, Bytes.byteAt, Bytes.partOf}
 use Rattle.benchfile.specs.declared.row.Row.{Row}
 use Rattle.benchfile.specs.declared.row.Row.the-variants.{Cycles, Read, Write, Pad, Plug, Answer, Back, Broken}
 

@@ -13,8 +13,7 @@ use Rattle.reader.specs.Reader.{readOf, reads}
 use Rattle.lister.specs.Row.{rowText}
 use Rattle.assembler.specs.Desk.{State, frontOf, romOf, scriptOf, stepped, runs, made, added}
 use Rattle.bothways.proofs.Quietly.{quietly, quietly-reads, quietly-runs}
-use Rattle.bothways.proofs.Rows.{Open, before}
-use Rattle.bothways.proofs.Row.{row-quiet, row-added}
+use Rattle.bothways.proofs.{Rows.Open, Rows.before, Row.row-quiet, Row.row-added}
 
 -- behind a line's end: a reader that has not failed, in phase p, and the three buffers
 pub record Rest (p : ℕ) (f o s : Sheet) (k : State) : Type 0 where

@@ -5,21 +5,17 @@ use mathlib.Core.List.{List, [], _∷_, _++_, foldl-append, flatMap}
 use mathlib.Core.Path.{_≡_, refl, ap, _∙_}
 use native.Mathlib.Omega.{arith}
 use borrow.Author.Tests.{le-leb}
-use Rattle.append.specs.Sheet.{Sheet, puts}
+use Rattle.append.specs.{Sheet.Sheet, Sheet.puts, Number.glyphOf, Texts.codes}
 use Rattle.common.specs.Width.{Bytes}
 use Rattle.reader.specs.declared.reader.Reader.{Reader}
-use Rattle.reader.specs.Letter.{signOf}
+use Rattle.reader.specs.{Letter.signOf, Draft.draft}
 use Rattle.reader.specs.Word.{word, blankWord, dollarOf, worthOf}
-use Rattle.reader.specs.Draft.{draft}
 use Rattle.reader.specs.Line.{numberOf, takenOf, closingOf, lineOf}
 use Rattle.reader.specs.Reader.{reader, shutOf, spacedOf, plainOf, stepOf, readOf}
-use Rattle.append.specs.Number.{glyphOf}
-use Rattle.append.specs.Texts.{codes}
 use Rattle.lister.specs.Body.{bytesText}
 use Rattle.assembler.specs.Desk.{State, frontOf, romOf, scriptOf, stepped, runs, made, added}
 use Rattle.bothways.proofs.Quietly.{quietly, quietly-runs, one}
-use Rattle.bothways.proofs.Digits.{plain, byte-first}
-use Rattle.bothways.proofs.Rows.{before}
+use Rattle.bothways.proofs.{Digits.plain, Digits.byte-first, Rows.before}
 
 pub data Section : Type 0 where
   fill : Section

@@ -7,8 +7,7 @@ use lib.ListN.{length, replicate, length-append, length-replicate}
 use borrow.Author.Tests.{lt-ltb, le-ltb}
 use Rattle.append.specs.Sheet.{Sheet, sheet, puts, shownOf}
 use Rattle.append.proofs.Laws.{puts-room}
-use Rattle.benchfile.specs.File.{fileCheck}
-use Rattle.benchfile.specs.Build.{build}
+use Rattle.benchfile.specs.{File.fileCheck, Build.build}
 use Rattle.benchfile.proofs.Built.{length-build}
 use Rattle.assembler.specs.Bind.{sizeOf, fillSize, bound}
 use Rattle.assembler.specs.Assemble.{checked, finished}

@@ -11,12 +11,10 @@ use Rattle.reader.specs.Word.{word, letterOf, dollarOf, worthOf}
 use Rattle.reader.specs.Draft.{draft, keywordOf, switchOf}
 use Rattle.reader.specs.Line.{numberOf, namedOf, takenOf, closingOf, lineOf}
 use Rattle.reader.specs.Reader.{reader, shutOf, spacedOf, plainOf, stepOf, readOf}
-use Rattle.bothways.proofs.Quietly.{quietly}
-use Rattle.append.specs.Number.{glyphOf, decimal}
-use Rattle.append.specs.Texts.{codes}
+use Rattle.bothways.proofs.{Quietly.quietly, Decimal.decimal-back}
+use Rattle.append.specs.{Number.glyphOf, Number.decimal, Texts.codes}
 use Rattle.lister.specs.Row.{wordText, padText, plugText, backText}
 use Rattle.bothways.proofs.Digits.{plain, byte-first, byte-more}
-use Rattle.bothways.proofs.Decimal.{decimal-back}
 use Rattle.bothways.proofs.Rows.{Open, before, at, pad-row, plug-row, back-row, row-word}
 
 -- the end of a back row

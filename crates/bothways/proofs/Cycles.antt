@@ -13,11 +13,9 @@ use Rattle.reader.specs.Word.{word, letterOf, worthOf}
 use Rattle.reader.specs.Draft.{draft, keywordOf, optionOf}
 use Rattle.reader.specs.Line.{numberOf, namedOf, takenOf, closingOf, lineOf}
 use Rattle.reader.specs.Reader.{reader, shutOf, spacedOf, plainOf, stepOf, readOf}
-use Rattle.bothways.proofs.Quietly.{calm, quietly}
-use Rattle.append.specs.Number.{decimal}
-use Rattle.append.specs.Texts.{codes}
+use Rattle.bothways.proofs.{Quietly.calm, Quietly.quietly, Decimal.decimal-back}
+use Rattle.append.specs.{Number.decimal, Texts.codes}
 use Rattle.lister.specs.Row.{eventText, flagsText, cyclesText}
-use Rattle.bothways.proofs.Decimal.{decimal-back}
 use Rattle.bothways.proofs.Rows.{Open, before, at, cycles-row, row-word}
 
 -- the flags of a row

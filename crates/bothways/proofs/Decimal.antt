@@ -12,9 +12,8 @@ use Rattle.reader.specs.declared.draft.Draft.{Draft}
 use Rattle.reader.specs.Word.{word, blankWord, letterOf}
 use Rattle.reader.specs.Draft.{draft}
 use Rattle.reader.specs.Reader.{reader, plainOf, stepOf, readOf}
-use Rattle.bothways.proofs.Quietly.{quietly}
+use Rattle.bothways.proofs.{Quietly.quietly, Digits.ten-digit, Digits.ten-sign}
 use Rattle.append.specs.Number.{decimalIn, decimal}
-use Rattle.bothways.proofs.Digits.{ten-digit, ten-sign}
 
 module _ (p s k x₁ x₂ x₃ x₄ : ℕ) where
   abbrev quiet : Draft

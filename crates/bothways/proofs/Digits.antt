@@ -9,9 +9,7 @@ use borrow.Author.Tests.{lt-ltb, ltb-true, ltb-false, ne-eqb}
 use Rattle.common.specs.Pick.{pick}
 use Rattle.common.proofs.RangeLaws.{inside, above}
 use Rattle.reader.specs.declared.draft.Draft.{Draft}
-use Rattle.reader.specs.Letter.{signOf, digitOf}
-use Rattle.reader.specs.Word.{word, letterOf}
-use Rattle.reader.specs.Draft.{draft}
+use Rattle.reader.specs.{Letter.signOf, Letter.digitOf, Word.word, Word.letterOf, Draft.draft}
 use Rattle.reader.specs.Reader.{reader, plainOf, stepOf, readOf}
 use Rattle.bothways.proofs.Quietly.{quietly}
 use Rattle.append.specs.Number.{glyphOf}

@@ -6,14 +6,12 @@ use mathlib.Core.Path.{_≡_, refl, ap, _∙_}
 use lib.Dec.{eqb}
 use lib.ListN.{length, replicate}
 use Rattle.append.specs.Sheet.{Sheet, sheet, puts}
-use Rattle.reader.specs.Letter.{signOf}
-use Rattle.reader.specs.Line.{lineOf}
+use Rattle.reader.specs.{Letter.signOf, Line.lineOf}
 use Rattle.reader.specs.Reader.{shutOf, stepOf, readOf}
 use Rattle.assembler.specs.Desk.{State, frontOf, romOf, scriptOf, stepped, made}
 use Rattle.assembler.specs.Assemble.{readyOf, finished, left}
 use Rattle.bothways.proofs.Rows.{Open, fill, rom, rows, before}
-use Rattle.bothways.proofs.Lines.{Scripted}
-use Rattle.bothways.proofs.Bound.{kept}
+use Rattle.bothways.proofs.{Lines.Scripted, Bound.kept}
 
 -- the line feed behind the text adds nothing
 module _ (file : List ℕ) (p k x₁ x₂ x₃ x₄ e : ℕ) (ok : eqb e 9 ≡ false) (f o s : Sheet) where

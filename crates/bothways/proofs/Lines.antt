@@ -6,27 +6,20 @@ use mathlib.Core.Path.{_≡_, refl, sym, ap, subst, _∙_}
 use native.Mathlib.Omega.{arith}
 use lib.ListN.{length, take, drop}
 use lib.Seq.{take-add, drop-drop, take-all}
-use Rattle.append.specs.Texts.{codes, each}
-use Rattle.append.specs.Sheet.{Sheet, puts}
+use Rattle.append.specs.{Texts.codes, Texts.each, Sheet.Sheet, Sheet.puts, Number.glyphOf}
 use Rattle.append.proofs.Laws.{then}
 use Rattle.fields.specs.Bytes.{partOf}
 use Rattle.common.specs.Width.{Bytes}
-use Rattle.benchfile.specs.Row.{formedRow, rowBytes}
-use Rattle.benchfile.specs.File.{scriptFormed}
+use Rattle.benchfile.specs.{Row.formedRow, Row.rowBytes, File.scriptFormed}
 use Rattle.fields.proofs.Parts.{part-bytes}
 use Rattle.benchfile.proofs.Rows.{script}
-use Rattle.reader.specs.Letter.{signOf, digitOf}
+use Rattle.reader.specs.{Letter.signOf, Letter.digitOf, Draft.draft, Draft.keywordOf, Line.namedOf, Line.takenOf}
 use Rattle.reader.specs.Word.{word, letterOf, dollarOf, worthOf}
-use Rattle.reader.specs.Draft.{draft, keywordOf}
-use Rattle.reader.specs.Line.{namedOf, takenOf}
 use Rattle.reader.specs.Reader.{reader, shutOf, spacedOf, plainOf, stepOf, readOf}
-use Rattle.append.specs.Number.{glyphOf}
 use Rattle.lister.specs.Body.{bytesText, lineText, linesFrom, linesText}
-use Rattle.lister.specs.Row.{rowText}
-use Rattle.lister.specs.List.{rowsText, scriptText}
+use Rattle.lister.specs.{Row.rowText, List.rowsText, List.scriptText}
 use Rattle.assembler.specs.Desk.{State, stepped, runs, made}
-use Rattle.bothways.proofs.Quietly.{quietly}
-use Rattle.bothways.proofs.Digits.{plain, byte-first}
+use Rattle.bothways.proofs.{Quietly.quietly, Digits.plain, Digits.byte-first}
 use Rattle.bothways.proofs.Rows.{Open, rows, before}
 use Rattle.bothways.proofs.Between.{Rest, line-runs, row-line}
 use lib.Dec.{eqb}

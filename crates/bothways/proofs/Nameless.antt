@@ -5,26 +5,21 @@ use mathlib.Core.List.{List, [], _∷_, _++_, flatMap}
 use mathlib.Core.Path.{_≡_, refl, sym, ap, subst, _∙_}
 use native.Mathlib.Omega.{arith}
 use lib.ListN.{length}
-use Rattle.append.specs.Texts.{codes, each}
-use Rattle.append.specs.Sheet.{Sheet, puts}
+use Rattle.append.specs.{Texts.codes, Texts.each, Sheet.Sheet, Sheet.puts, Number.glyphOf}
 use Rattle.fields.specs.Bytes.{byteAt, partOf}
 use Rattle.common.specs.Width.{Bytes}
-use Rattle.benchfile.specs.Row.{formedRow, rowBytes}
-use Rattle.benchfile.specs.File.{scriptFormed}
+use Rattle.benchfile.specs.{Row.formedRow, Row.rowBytes, File.scriptFormed}
 use Rattle.fields.proofs.Parts.{part-bytes}
 use Rattle.benchfile.proofs.Rows.{script}
 use Rattle.reader.specs.declared.reader.Reader.{Reader}
 use Rattle.reader.specs.Reader.{startOf, readOf, reads}
-use Rattle.append.specs.Number.{glyphOf}
 use Rattle.lister.specs.Body.{bytesText, lineText, linesFrom, linesText}
 use Rattle.lister.specs.Row.{rowText}
 use Rattle.lister.specs.List.{settingsText, rowsText, scriptText}
 use Rattle.assembler.specs.Desk.{State, runs}
-use Rattle.bothways.proofs.Quietly.{quietly, quietly-reads}
+use Rattle.bothways.proofs.{Quietly.quietly, Quietly.quietly-reads, Row.row-quiet, Settings.settings-back}
 use Rattle.bothways.proofs.Rows.{Open, rows, before}
-use Rattle.bothways.proofs.Row.{row-quiet}
 use Rattle.bothways.proofs.Between.{Rest, line-reads, row-line}
-use Rattle.bothways.proofs.Settings.{settings-back}
 use Rattle.bothways.proofs.Body.{Section, wordOf, byteRead, spacedRead, dollarRead, space, dollar, digits}
 use Rattle.bothways.proofs.Lines.{phaseOf, opening, head, letters, lettered, parted, Holds, line, Scripted}
 use Rattle.bothways.proofs.Unnamed.{Unnamed, unnamed-none, unnamed-next, unnamed-append, unnamed-runs, quietly-unnamed, line-unnamed}

@@ -8,8 +8,7 @@ use borrow.Author.Tests.{eqb-true}
 use Rattle.common.specs.Pick.{pick}
 use Rattle.append.specs.Sheet.{Sheet, puts}
 use Rattle.reader.specs.declared.reader.Reader.{Reader}
-use Rattle.reader.specs.Word.{blankWord}
-use Rattle.reader.specs.Draft.{draft}
+use Rattle.reader.specs.{Word.blankWord, Draft.draft}
 use Rattle.reader.specs.Reader.{reader, readOf, reads}
 use Rattle.assembler.specs.Desk.{State, made, frontOf, romOf, scriptOf, added, stepped, runs}
 

@@ -5,18 +5,13 @@ use mathlib.Core.Path.{_≡_, refl}
 use native.Mathlib.Omega.{arith}
 use lib.Dec.{eqb}
 use lib.ListN.{length, take, drop, length-append}
-use Rattle.append.specs.Texts.{codes, each}
-use Rattle.common.proofs.AllLaws.{_also_, byte-fits}
-use Rattle.common.specs.Pick.{pick}
-use Rattle.common.specs.Table.{at}
-use Rattle.common.proofs.TableLaws.{pick-elim, find-elim}
-use Rattle.fields.specs.Bytes.{byteAt, partOf}
-use Rattle.common.specs.Width.{Bytes}
-use Rattle.fields.specs.Little.{field}
+use Rattle.append.specs.{Texts.codes, Texts.each, Number.decimal}
+use Rattle.common.proofs.{AllLaws._also_, AllLaws.byte-fits, TableLaws.pick-elim, TableLaws.find-elim}
+use Rattle.common.specs.{Pick.pick, Table.at, Width.Bytes}
+use Rattle.fields.specs.{Bytes.byteAt, Bytes.partOf, Little.field}
 use Rattle.benchfile.specs.Row.{rowBytes}
 use Rattle.fields.proofs.Parts.{part-bytes}
 use Rattle.append.proofs.Decimal.{short}
-use Rattle.append.specs.Number.{decimal}
 use Rattle.lister.specs.Body.{bytesText, lineText, linesFrom, linesText}
 use Rattle.lister.specs.Row.{eventText, flagsText, cyclesText, padText, plugText, backText, texts, rowText}
 use Rattle.lister.specs.List.{rowsText, scriptText, settingsText}

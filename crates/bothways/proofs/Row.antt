@@ -10,19 +10,15 @@ use lib.Seq.{take-all}
 use lib.Dec.{leb, eqb}
 use borrow.Author.Tests.{leb-true, eqb-true}
 use Rattle.common.proofs.AllLaws.{byte-fits}
-use Rattle.common.specs.Table.{find}
-use Rattle.fields.specs.Bytes.{byteAt}
-use Rattle.common.specs.Width.{Bytes}
-use Rattle.fields.specs.Little.{span, field}
+use Rattle.common.specs.{Table.find, Width.Bytes}
+use Rattle.fields.specs.{Bytes.byteAt, Little.span, Little.field}
 use Rattle.benchfile.specs.declared.row.Row.{Row}
 use Rattle.benchfile.specs.declared.row.Row.the-variants.{Cycles, Read, Write, Pad, Plug, Answer, Back, Broken}
 use Rattle.benchfile.specs.Row.{allZero, zeros, formTable, formedRow, rowOf, bytesOf}
-use Rattle.benchfile.proofs.RowBytes.{bytes-row}
+use Rattle.benchfile.proofs.{RowBytes.bytes-row, Found.Holds, Found.found, Numbers.lo-back, Numbers.hi-back}
 use Rattle.reader.specs.Draft.{draft}
 use Rattle.assembler.specs.Desk.{scriptOf}
-use Rattle.benchfile.proofs.Found.{Holds, found}
 use Rattle.fields.proofs.Parts.{listed}
-use Rattle.benchfile.proofs.Numbers.{lo-back, hi-back}
 use Rattle.bothways.proofs.Quietly.{quietly}
 use Rattle.lister.specs.Row.{rowText}
 use Rattle.bothways.proofs.Rows.{Open, before, read-back, write-back, answer-back}

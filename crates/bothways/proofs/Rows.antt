@@ -8,14 +8,12 @@ use native.Mathlib.Omega.{arith}
 use lib.Dec.{leb}
 use borrow.Author.Tests.{le-leb}
 use Rattle.reader.specs.declared.reader.Reader.{Reader}
-use Rattle.reader.specs.Letter.{signOf, digitOf}
+use Rattle.reader.specs.{Letter.signOf, Letter.digitOf, Draft.draft, Draft.keywordOf}
 use Rattle.reader.specs.Word.{word, blankWord, letterOf, dollarOf, colonOf, worthOf}
-use Rattle.reader.specs.Draft.{draft, keywordOf}
 use Rattle.reader.specs.Line.{numberOf, namedOf, takenOf, closingOf, lineOf}
 use Rattle.reader.specs.Reader.{reader, shutOf, spacedOf, plainOf, stepOf, readOf}
 use Rattle.bothways.proofs.Quietly.{calm, quietly}
-use Rattle.append.specs.Number.{glyphOf}
-use Rattle.append.specs.Texts.{codes}
+use Rattle.append.specs.{Number.glyphOf, Texts.codes}
 use Rattle.lister.specs.Row.{readText, writeText, answerText}
 use Rattle.bothways.proofs.Digits.{plain, banked, byte-first, byte-more}
 

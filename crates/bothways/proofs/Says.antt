@@ -7,23 +7,18 @@ use native.Mathlib.Omega.{arith}
 use lib.ListN.{length}
 use lib.Seq.{take-all}
 use Rattle.common.proofs.AllLaws.{byte-fits}
-use Rattle.append.specs.Sheet.{Sheet, puts}
-use Rattle.append.specs.Texts.{codes}
-use Rattle.fields.specs.Bytes.{byteAt}
+use Rattle.append.specs.{Sheet.Sheet, Sheet.puts, Texts.codes}
+use Rattle.fields.specs.{Bytes.byteAt, Little.field}
 use Rattle.common.specs.Width.{Bytes}
-use Rattle.fields.specs.Little.{field}
 use Rattle.benchfile.specs.File.{scriptFormed}
 use Rattle.benchfile.proofs.Numbers.{lo-back, hi-back}
 use Rattle.fields.proofs.Parts.{listed}
 use Rattle.reader.specs.Reader as reading
-use Rattle.lister.specs.Body.{linesText}
-use Rattle.lister.specs.List.{settingsText, scriptText}
+use Rattle.lister.specs.{Body.linesText, List.settingsText, List.scriptText}
 use Rattle.assembler.specs.Desk.{State, stepped, runs, made}
 use Rattle.bothways.proofs.Rows as phases
-use Rattle.bothways.proofs.Between.{Rest}
-use Rattle.bothways.proofs.Settings.{settings-line}
+use Rattle.bothways.proofs.{Between.Rest, Settings.settings-line, Unnamed.Unnamed, Unnamed.unnamed-runs}
 use Rattle.bothways.proofs.Body as body
-use Rattle.bothways.proofs.Unnamed.{Unnamed, unnamed-runs}
 use Rattle.bothways.proofs.Nameless.{settings-nameless, lines-nameless, script-nameless}
 use Rattle.bothways.proofs.Lines.{Holds, Scripted, lines-add, rows-add}
 

@@ -5,8 +5,7 @@ use mathlib.Core.List.{List, [], _++_}
 use mathlib.Core.Path.{_≡_, sym, ap, subst, _∙_}
 use lib.Dec.{eqb}
 use lib.ListN.{length}
-use Rattle.common.specs.Pick.{pick}
-use Rattle.common.specs.Width.{Bytes}
+use Rattle.common.specs.{Pick.pick, Width.Bytes}
 use Rattle.benchfile.specs.File.{startOf, sizeOf, bodyOf, scriptFormed, fileCheck, sectionNumber, sectionOf}
 use Rattle.benchfile.specs.Build.{build, Bench}
 use Rattle.fields.proofs.Parts.{part-bytes}

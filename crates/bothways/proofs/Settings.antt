@@ -4,21 +4,15 @@ use mathlib.Core.List.{List, [], _∷_, _++_}
 use mathlib.Core.Path.{_≡_, refl, ap, _∙_}
 use native.Mathlib.Omega.{arith}
 use borrow.Author.Tests.{le-leb}
-use Rattle.append.specs.Sheet.{Sheet, puts}
+use Rattle.append.specs.{Sheet.Sheet, Sheet.puts, Number.decimal, Texts.codes}
 use Rattle.reader.specs.declared.reader.Reader.{Reader}
-use Rattle.reader.specs.Letter.{signOf, digitOf}
+use Rattle.reader.specs.{Letter.signOf, Letter.digitOf, Draft.draft, Draft.keywordOf}
 use Rattle.reader.specs.Word.{word, letterOf, worthOf}
-use Rattle.reader.specs.Draft.{draft, keywordOf}
 use Rattle.reader.specs.Line.{numberOf, namedOf, takenOf, closingOf, lineOf}
 use Rattle.reader.specs.Reader.{reader, startOf, shutOf, spacedOf, plainOf, stepOf, readOf}
-use Rattle.append.specs.Number.{decimal}
-use Rattle.append.specs.Texts.{codes}
 use Rattle.lister.specs.List.{settingsText}
 use Rattle.assembler.specs.Desk.{State, frontOf, romOf, scriptOf, runs, made, added}
-use Rattle.bothways.proofs.Quietly.{quietly, quietly-runs}
-use Rattle.bothways.proofs.Decimal.{decimal-back}
-use Rattle.bothways.proofs.Rows.{before}
-use Rattle.bothways.proofs.Between.{Rest}
+use Rattle.bothways.proofs.{Quietly.quietly, Quietly.quietly-runs, Decimal.decimal-back, Rows.before, Between.Rest}
 
 -- `bitcycles `
 settings-word : (t : List ℕ) → quietly startOf (codes "bitcycles " ++ t) ≡ quietly (reader (word 0 0 0) (draft 1 10 8 0 0 0 0 0)) t

@@ -12,8 +12,7 @@ use Rattle.reader.specs.declared.reader.Reader.{Reader}
 use Rattle.reader.specs.Reader.{readOf, reads, untilOf, unnamedOf}
 use Rattle.assembler.specs.Desk.{State, stepped, runs}
 use Rattle.bothways.proofs.Quietly.{loud, calm, quietly, not-loud}
-use Rattle.bothways.proofs.Rows.{before}
-use Rattle.bothways.proofs.Between.{quieted}
+use Rattle.bothways.proofs.{Rows.before, Between.quieted}
 
 abbrev pub Unnamed : Reader → List ℕ → Type 0
 Unnamed r t = unnamedOf r t ≡ length t

@@ -16,11 +16,8 @@ use Rattle.reader.specs.Reader.{startOf, unnamedOf}
 use Rattle.lister.specs.List.{listText}
 use Rattle.assembler.specs.Desk.{State, stepped, runs, opened, gathered}
 use Rattle.assembler.specs.Assemble.{said, left, assembled}
-use Rattle.bothways.proofs.Lines.{Scripted}
-use Rattle.bothways.proofs.Says.{says, nameless}
+use Rattle.bothways.proofs.{Lines.Scripted, Says.says, Says.nameless, Bound.there, Bound.finished-file, Finish.bodies}
 use Rattle.bothways.proofs.Room.{settings-short, lines-short, script-short}
-use Rattle.bothways.proofs.Bound.{there, finished-file}
-use Rattle.bothways.proofs.Finish.{bodies}
 use Rattle.bothways.proofs.Sections as of
 
 module _ (f : List ℕ) (small : Bytes f) (sound : fileCheck f ≡ 0) where

@@ -5,11 +5,8 @@ use mathlib.Core.List.{List}
 use mathlib.Core.Path.{_≡_, refl, _∙_}
 use native.Mathlib.Omega.{arith}
 use lib.ListN.{length, getD}
-use Rattle.common.specs.Fill.{Filled}
-use Rattle.common.proofs.FillLaws.{Grows, grows-none, grows-trans, grows-more, filled-grows, filled-none, push-grows, push-stored}
-use Rattle.registers.specs.declared.Io.{Io}
-use Rattle.registers.specs.declared.channel.DmaChannel.{DmaChannel}
-use Rattle.registers.specs.declared.pads.Pads.{Pads}
+use Rattle.common.proofs.FillLaws.{Filled, Grows, grows-none, grows-trans, grows-more, filled-grows, filled-none, push-grows, push-stored}
+use Rattle.registers.specs.declared.{Io.Io, channel.DmaChannel.DmaChannel, pads.Pads.Pads}
 use Rattle.registers.proofs.PadsLaws.{Undisturbed, still, read-leaves, write-leaves}
 use Rattle.wram.specs.Banks.{Banks, banks, peeked}
 use Rattle.wram.specs.Olds.{noOld, noOlds, putBack, backFrom}
@@ -19,9 +16,7 @@ use Rattle.bus.specs.Access.{noAccess, pushAccess, opened, ioWritten, re
 use Rattle.bus.specs.Route.{routeOf}
 use Rattle.bus.specs.View.{withIo, withChannel, withMdmaen, withCore}
 use Rattle.bus.specs.World.{World, world, placeAt, readIoAt, readAt, writeAt}
-use Rattle.bus.specs.declared.access.Access.{Access}
-use Rattle.bus.specs.declared.access.Log.{Log}
-use Rattle.bus.specs.declared.route.Route.{Route}
+use Rattle.bus.specs.declared.{access.Access.Access, access.Log.Log, route.Route.Route}
 use Rattle.bus.specs.declared.route.Route.the-variants.{Bank7E, Bank7F, Data, Registers, Cartridge}
 
 -- how many accesses, and how many bytes overwritten

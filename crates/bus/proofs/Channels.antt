@@ -4,8 +4,7 @@ use mathlib.Core.Path.{_≡_}
 use native.Mathlib.Omega.{arith}
 use lib.ListN.{length}
 use lib.Seq.{getD-set-same, set-set}
-use Rattle.registers.specs.Channel.{noChannel}
-use Rattle.registers.specs.Groups.{withIo-channels}
+use Rattle.registers.specs.{Channel.noChannel, Groups.withIo-channels}
 use Rattle.registers.specs.declared.channel.DmaChannel.{DmaChannel}
 use Rattle.bus.specs.View.{withIo, channelOf, withChannel}
 use Rattle.bus.specs.declared.access.Core.{Core}

@@ -11,14 +11,10 @@ use Rattle.common.proofs.TableLaws.{pick-elim}
 use Rattle.cartridge.specs.Cartridge.{romOffset, romByte}
 use Rattle.registers.proofs.FitGroups.{fit-wmadd, fit-enables, fit-channels, fit-openbus}
 use Rattle.registers.proofs.FitKept.{fit-write, fit-read-byte, fit-read}
-use Rattle.registers.proofs.FitParts.{fit-stepped}
+use Rattle.registers.proofs.{FitParts.fit-stepped, Fit.FitChannel, Fit.FitIo}
 use Rattle.registers.specs.Channel.{noChannel}
-use Rattle.registers.proofs.Fit.{FitChannel, FitIo}
 use Rattle.common.specs.Width.{Byte, Word, Bytes}
-use Rattle.registers.specs.declared.Io.{Io}
-use Rattle.registers.specs.declared.channel.DmaChannel.{DmaChannel}
-use Rattle.registers.specs.declared.read.IoRead.{IoRead}
-use Rattle.registers.specs.declared.wm_address.WmAddBank.{WmAddBank}
+use Rattle.registers.specs.declared.{Io.Io, channel.DmaChannel.DmaChannel, read.IoRead.IoRead, wm_address.WmAddBank.WmAddBank}
 use Rattle.registers.specs.declared.wm_address.WmAddBank.the-variants as wm
 use Rattle.wram.proofs.FitLaws.{peeked-fits, poked-fits, kept-fits, FitBanks, FitPlace}
 use Rattle.wram.proofs.Ranges.{FitOld, OldsOk}

@@ -5,17 +5,10 @@ use mathlib.Core.List.{List}
 use lib.ListN.{replicate}
 use Rattle.common.specs.Fill.{oneMore, storedIn}
 use Rattle.cartridge.specs.Cartridge.{romByte}
-use Rattle.registers.specs.Groups.{withIo-wmadd, withIo-openbus}
-use Rattle.registers.specs.Read.{readIo}
-use Rattle.registers.specs.WmAdd.{stepped}
-use Rattle.registers.specs.Write.{writeIo}
-use Rattle.registers.specs.declared.Io.{Io}
-use Rattle.registers.specs.declared.read.IoRead.{IoRead}
+use Rattle.registers.specs.{Groups.withIo-wmadd, Groups.withIo-openbus, Read.readIo, WmAdd.stepped, Write.writeIo}
+use Rattle.registers.specs.declared.{Io.Io, read.IoRead.IoRead}
 use Rattle.wram.specs.Olds.{noOlds}
-use Rattle.bus.specs.declared.access.Access.{Access}
-use Rattle.bus.specs.declared.access.Core.{Core}
-use Rattle.bus.specs.declared.access.Log.{Log}
-use Rattle.bus.specs.declared.route.Route.{Route}
+use Rattle.bus.specs.declared.{access.Access.Access, access.Core.Core, access.Log.Log, route.Route.Route}
 use Rattle.bus.specs.declared.route.Route.the-variants.{Bank7E, Bank7F, Data, Registers, Cartridge}
 
 -- an unused place

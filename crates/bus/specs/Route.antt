@@ -2,13 +2,11 @@
 use Prim.Native.Nat.{ℕ}
 use mathlib.Core.Bool.{Bool, true, false}
 use lib.Dec.{eqb, ltb}
-use Rattle.common.specs.Pick.{pick}
-use Rattle.common.specs.Range.{within}
+use Rattle.common.specs.{Pick.pick, Range.within}
 use Rattle.cartridge.specs.Cartridge.{romCost}
 use Rattle.registers.specs.WmAdd.{stepped}
-use Rattle.registers.specs.declared.wm_address.WmAddBank.{WmAddBank}
+use Rattle.registers.specs.declared.{wm_address.WmAddBank.WmAddBank, wm_address.WmAddress.WmAddress}
 use Rattle.registers.specs.declared.wm_address.WmAddBank.the-variants as wm
-use Rattle.registers.specs.declared.wm_address.WmAddress.{WmAddress}
 use Rattle.wram.specs.declared.Place.{Place}
 use Rattle.wram.specs.declared.Place.the-variants as at
 use Rattle.bus.specs.declared.route.Route.{Route}

@@ -3,8 +3,7 @@ use Prim.Native.Nat.{ℕ, _%_}
 use lib.ListN.{getD, set}
 use Rattle.registers.specs.Channel.{noChannel}
 use Rattle.registers.specs.Groups.{withIo-channels, withIo-enables, withEnables-mdmaen}
-use Rattle.registers.specs.declared.Io.{Io}
-use Rattle.registers.specs.declared.channel.DmaChannel.{DmaChannel}
+use Rattle.registers.specs.declared.{Io.Io, channel.DmaChannel.DmaChannel}
 use Rattle.bus.specs.World.{World}
 use Rattle.bus.specs.declared.access.Core.{Core}
 

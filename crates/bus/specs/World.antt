@@ -2,17 +2,13 @@
 use Prim.Native.Nat.{ℕ}
 use mathlib.Core.Bool.{true, false}
 use mathlib.Core.List.{List}
-use Rattle.registers.specs.declared.Io.{Io}
-use Rattle.registers.specs.declared.read.IoRead.{IoRead}
+use Rattle.registers.specs.declared.{Io.Io, read.IoRead.IoRead}
 use Rattle.wram.specs.Banks.{Banks, banks, peeked, poked}
 use Rattle.wram.specs.Olds.{keptAt}
-use Rattle.wram.specs.declared.Olds.{Olds}
-use Rattle.wram.specs.declared.Place.{Place}
+use Rattle.wram.specs.declared.{Olds.Olds, Place.Place}
 use Rattle.bus.specs.Access.{pushAccess, ioWritten, registerRead}
 use Rattle.bus.specs.Route.{routeOf, placeOf}
-use Rattle.bus.specs.declared.access.BusRead.{BusRead}
-use Rattle.bus.specs.declared.access.Core.{Core}
-use Rattle.bus.specs.declared.access.Log.{Log}
+use Rattle.bus.specs.declared.{access.BusRead.BusRead, access.Core.Core, access.Log.Log}
 
 -- what stands on the bus: registers, log and bytes overwritten, and both banks
 pub record World : Type 0 where

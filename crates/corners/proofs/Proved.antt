@@ -9,17 +9,12 @@ use Rattle.bus.specs.World.{readAt, writeAt}
 use Rattle.corners.specs.Corners.{held, corners}
 use Rattle.dma.specs.Cycle.{startPending, dueOf, actBy, acted, updated}
 use Rattle.dma.specs.Pass.{drainedOf, hdmaStep}
-use Rattle.hdma.specs.Engine.{setHdma}
-use Rattle.hdma.specs.Entry.{reloaded, counted}
-use Rattle.hdma.specs.Line.{lineChannel}
-use Rattle.machine.specs.Cycle.{armed, cycled}
+use Rattle.hdma.specs.{Engine.setHdma, Entry.reloaded, Entry.counted, Line.lineChannel}
+use Rattle.machine.specs.{Cycle.armed, Cycle.cycled, PowerOn.powerOnDma, PowerOn.powerOnMachine}
 use Rattle.machine.specs.Event.{pressed, evented, settled, timed}
-use Rattle.machine.specs.PowerOn.{powerOnDma, powerOnMachine}
 use Rattle.registers.specs.PowerOn.{powerOn}
 use Rattle.signals.specs.AutoJoypad.{autoStep}
-use Rattle.transfer.specs.Byte.{tripOf, moved}
-use Rattle.transfer.specs.Pattern.{offsetOf, unitLen}
-use Rattle.transfer.specs.Table.{tableRead, dasLoaded}
+use Rattle.transfer.specs.{Byte.tripOf, Byte.moved, Pattern.offsetOf, Pattern.unitLen, Table.tableRead, Table.dasLoaded}
 use Rattle.transfer.specs.Unit.{unitByte, unitBytes, sourceOf, sourceStored, unitSent}
 use Rattle.wram.specs.Olds.{pushOld, keptAt}
 

@@ -5,28 +5,19 @@ use mathlib.Core.Bool.{Bool, true, false}
 use mathlib.Core.List.{List, [], _∷_}
 use lib.ListN.{getD, set}
 use mir.Val.{boolByte}
-use Rattle.bus.specs.Access.{noAccess, opened}
-use Rattle.bus.specs.World.{world}
+use Rattle.bus.specs.{Access.noAccess, Access.opened, World.world}
 use Rattle.dma.specs.Cycle.{alignment}
 use Rattle.hdma.specs.Engine.{DmaWorld, at, withChannels, hdmaAt}
 use Rattle.hdma.specs.Line.{lineChannel}
-use Rattle.machine.specs.Cycle.{machineAfter, cycled}
-use Rattle.machine.specs.PowerOn.{powerOnDma, powerOnMachine}
+use Rattle.machine.specs.{Cycle.machineAfter, Cycle.cycled, PowerOn.powerOnDma, PowerOn.powerOnMachine}
 use Rattle.machine.specs.declared.event.Event.the-variants.{Nothing}
 use Rattle.registers.specs.Groups.{withIo-channels, withIo-openbus, withIo-pads, withPads-port1}
 use Rattle.registers.specs.Maths.{multiplying, dividing, rddivRead, rdmpyRead}
-use Rattle.registers.specs.PowerOn.{powerOn}
-use Rattle.registers.specs.Read.{readByte}
-use Rattle.registers.specs.WmAdd.{stepped}
-use Rattle.registers.specs.WmNumber.{bit16}
-use Rattle.registers.specs.Write.{writeIo}
-use Rattle.registers.specs.declared.Io.{Io}
-use Rattle.registers.specs.declared.channel.DmaChannel.{DmaChannel}
-use Rattle.registers.specs.declared.wm_address.WmAddBank.{WmAddBank}
+use Rattle.registers.specs.{PowerOn.powerOn, Read.readByte, WmAdd.stepped, WmNumber.bit16, Write.writeIo}
+use Rattle.registers.specs.declared.{Io.Io, channel.DmaChannel.DmaChannel, wm_address.WmAddBank.WmAddBank}
 use Rattle.registers.specs.declared.wm_address.WmAddBank.the-variants.{Bank7E, Bank7F}
 use Rattle.state.specs.Hdma.{noHdma}
-use Rattle.state.specs.declared.HdmaChannelState.{HdmaChannelState}
-use Rattle.state.specs.declared.Machine.{Machine}
+use Rattle.state.specs.declared.{HdmaChannelState.HdmaChannelState, Machine.Machine}
 use Rattle.transfer.specs.Pattern.{offsetOf, bAddress}
 
 -- what the definitions give, and what document 01 lists

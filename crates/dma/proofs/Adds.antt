@@ -9,13 +9,10 @@ use Rattle.bus.specs.View.{channelOf, mdmaenOf}
 use Rattle.hdma.proofs.Adds.{init-adds, line-adds}
 use Rattle.hdma.specs.Engine.{DmaWorld, at}
 use Rattle.hdma.specs.declared.engine.DmaCore.{DmaCore}
-use Rattle.state.specs.declared.DmaProgress.{DmaProgress}
-use Rattle.state.specs.declared.DmaProgress.the-variants.{Nothing, At}
-use Rattle.state.specs.declared.DmaState.{DmaState}
+use Rattle.state.specs.declared.{DmaProgress.DmaProgress, DmaProgress.the-variants.Nothing, DmaProgress.the-variants.At, DmaState.DmaState}
 use Rattle.state.specs.declared.DmaState.the-variants.{Idle, Startup, Dma as General, Hdma}
 use Rattle.transfer.proofs.Adds.{transfer-adds}
-use Rattle.transfer.specs.Bits.{lowest, down}
-use Rattle.transfer.specs.Byte.{transferByte}
+use Rattle.transfer.specs.{Bits.lowest, Bits.down, Byte.transferByte}
 use Rattle.dma.specs.Cycle.{Held, startPending, dueOf, actBy, acted, updated}
 use Rattle.dma.specs.General.{afterByte, onBanks, stepFrom, dmaStep}
 use Rattle.dma.specs.Pass.{unqueued, hdmaStep}

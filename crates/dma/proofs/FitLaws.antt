@@ -16,13 +16,10 @@ use Rattle.hdma.specs.declared.engine.DmaCore.{DmaCore}
 use Rattle.common.specs.Width.{Byte, Bytes}
 use Rattle.registers.specs.Groups.{withDmaChannel-das}
 use Rattle.state.proofs.Fit.{FitProgress, FitDma}
-use Rattle.state.specs.declared.Dma.{Dma}
-use Rattle.state.specs.declared.DmaProgress.{DmaProgress}
-use Rattle.state.specs.declared.DmaProgress.the-variants.{Nothing, At}
+use Rattle.state.specs.declared.{Dma.Dma, DmaProgress.DmaProgress, DmaProgress.the-variants.Nothing, DmaProgress.the-variants.At}
 use Rattle.state.specs.declared.DmaState.{DmaState}
 use Rattle.state.specs.declared.DmaState.the-variants.{Idle, Startup, Dma as General, Hdma}
-use Rattle.transfer.proofs.BitLaws.{lowest-lt}
-use Rattle.transfer.proofs.FitLaws.{transfer-fits}
+use Rattle.transfer.proofs.{BitLaws.lowest-lt, FitLaws.transfer-fits}
 use Rattle.transfer.specs.Bits.{lowest, clearBit, down}
 use Rattle.transfer.specs.Byte.{transferByte}
 use Rattle.dma.specs.Cycle.{Held, startPending, dueOf, actBy, acted, updated}

@@ -11,13 +11,11 @@ use Rattle.dma.specs.Cycle.{Held, holding, startPending, dueOf, actBy, a
 use Rattle.dma.specs.General.{chosen, afterByte, onBanks, stepFrom, dmaStep}
 use Rattle.dma.specs.Pass.{drainedOf, hdmaStep}
 use Rattle.hdma.specs.Engine.{DmaWorld, at, withState, withWait, withProgress, withPending, withQueue}
-use Rattle.hdma.specs.Entry.{initChannel}
-use Rattle.hdma.specs.Line.{lineChannel}
+use Rattle.hdma.specs.{Entry.initChannel, Line.lineChannel}
 use Rattle.hdma.specs.declared.engine.DmaCore.{DmaCore}
 use Rattle.registers.specs.Groups.{withDmaChannel-das}
 use Rattle.registers.specs.declared.channel.DmaChannel.{DmaChannel}
-use Rattle.state.specs.declared.Dma.{Dma}
-use Rattle.state.specs.declared.DmaProgress.the-variants.{Nothing, At}
+use Rattle.state.specs.declared.{Dma.Dma, DmaProgress.the-variants.Nothing, DmaProgress.the-variants.At}
 use Rattle.state.specs.declared.DmaState.the-variants.{Idle, Startup, Dma as General, Hdma}
 use Rattle.transfer.specs.Bits.{lowest, clearBit, down}
 use Rattle.transfer.specs.Byte.{transferByte}

@@ -13,14 +13,11 @@ use Rattle.hdma.proofs.Ranges.{init-ok, line-ok}
 use Rattle.hdma.specs.Engine.{DmaWorld, at, withState, withInit}
 use Rattle.hdma.specs.declared.engine.DmaCore.{DmaCore}
 use Rattle.state.proofs.Ranges.{ProgressOk, DmaOk}
-use Rattle.state.specs.declared.Dma.{Dma}
-use Rattle.state.specs.declared.DmaProgress.{DmaProgress}
-use Rattle.state.specs.declared.DmaProgress.the-variants.{Nothing, At}
+use Rattle.state.specs.declared.{Dma.Dma, DmaProgress.DmaProgress, DmaProgress.the-variants.Nothing, DmaProgress.the-variants.At}
 use Rattle.state.specs.declared.DmaState.{DmaState}
 use Rattle.state.specs.declared.DmaState.the-variants.{Idle, Startup, Dma as General, Hdma}
 use Rattle.transfer.proofs.BitLaws.{lowest-lt}
-use Rattle.transfer.specs.Bits.{lowest, down}
-use Rattle.transfer.specs.Byte.{transferByte}
+use Rattle.transfer.specs.{Bits.lowest, Bits.down, Byte.transferByte}
 use Rattle.dma.specs.Cycle.{Held, startPending, dueOf, actBy, acted, updated}
 use Rattle.dma.specs.General.{chosen, afterByte, stepFrom, dmaStep}
 use Rattle.dma.specs.Pass.{drainedOf, unqueued, hdmaStep}

@@ -5,12 +5,10 @@ use mathlib.Core.List.{List}
 use lib.Dec.{eqb, ltb}
 use Rattle.common.specs.Pick.{pick}
 use Rattle.bus.specs.View.{mdmaenOf, hdmaenOf}
-use Rattle.dma.specs.General.{dmaStep}
-use Rattle.dma.specs.Pass.{hdmaStep}
+use Rattle.dma.specs.{General.dmaStep, Pass.hdmaStep}
 use Rattle.dma.specs.declared.cycle.Cycled.{Cycled}
 use Rattle.hdma.specs.Engine.{DmaWorld, dmaWorld, at, withState, withWait, withRunning, withPending, withQueue}
-use Rattle.state.specs.declared.Dma.{Dma}
-use Rattle.state.specs.declared.DmaState.{DmaState}
+use Rattle.state.specs.declared.{Dma.Dma, DmaState.DmaState}
 use Rattle.state.specs.declared.DmaState.the-variants.{Idle, Startup, Dma as General, Hdma}
 
 -- alignment is 8 - clock mod 8; startup holds alignment + 8, of which this cycle is the first

@@ -10,9 +10,7 @@ use Rattle.bus.specs.declared.access.Core.{Core}
 use Rattle.hdma.specs.Engine.{DmaWorld, at, withState, withWait, withRunning, withProgress}
 use Rattle.hdma.specs.declared.engine.DmaCore.{DmaCore}
 use Rattle.registers.specs.Groups.{withDmaChannel-das}
-use Rattle.state.specs.declared.Dma.{Dma}
-use Rattle.state.specs.declared.DmaProgress.{DmaProgress}
-use Rattle.state.specs.declared.DmaProgress.the-variants.{Nothing, At}
+use Rattle.state.specs.declared.{Dma.Dma, DmaProgress.DmaProgress, DmaProgress.the-variants.Nothing, DmaProgress.the-variants.At}
 use Rattle.state.specs.declared.DmaState.the-variants.{Idle}
 use Rattle.transfer.specs.Bits.{lowest, clearBit, down}
 use Rattle.transfer.specs.Byte.{transferByte}

@@ -5,10 +5,8 @@ use mathlib.Core.List.{List}
 use lib.Dec.{eqb}
 use Rattle.common.specs.Pick.{pick}
 use Rattle.hdma.specs.Engine.{DmaWorld, at, withState, withInit, withQueue}
-use Rattle.hdma.specs.Entry.{initChannel}
-use Rattle.hdma.specs.Line.{lineChannel}
-use Rattle.state.specs.declared.Dma.{Dma}
-use Rattle.state.specs.declared.DmaState.the-variants.{Idle, Dma as General}
+use Rattle.hdma.specs.{Entry.initChannel, Line.lineChannel}
+use Rattle.state.specs.declared.{Dma.Dma, DmaState.the-variants.Idle, DmaState.the-variants.Dma as General}
 use Rattle.transfer.specs.Bits.{lowest, clearBit}
 
 -- the queue is empty: the pass is over, and a general transfer that was stopped goes on

@@ -2,8 +2,7 @@
 use Prim.Native.Nat.{ℕ}
 use mathlib.Core.List.{List, _++_}
 use mathlib.Core.Path.{_≡_, _∙_}
-use Rattle.append.specs.Sheet.{Sheet, puts}
-use Rattle.append.specs.Texts.{codes}
+use Rattle.append.specs.{Sheet.Sheet, Sheet.puts, Texts.codes}
 use Rattle.append.proofs.Laws.{then}
 use Rattle.fields.specs.Bytes.{partOf}
 use Rattle.dump.specs.Page.{headText, bytesText, signsText, lineText}

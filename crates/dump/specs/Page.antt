@@ -2,8 +2,7 @@
 use Prim.Native.Nat.{ℕ, _+_, _*_, _/_, _%_}
 use Prim.Native.Char.{code}
 use mathlib.Core.List.{List, [], _∷_, _++_, flatMap}
-use Rattle.common.specs.Pick.{pick}
-use Rattle.common.specs.Range.{within}
+use Rattle.common.specs.{Pick.pick, Range.within}
 use Rattle.fields.specs.Bytes.{partOf}
 use Rattle.append.specs.Number.{glyphOf, hexByte, hexes}
 use Rattle.append.specs.Texts.{codes, each}

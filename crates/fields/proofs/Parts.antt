@@ -6,8 +6,7 @@ use native.Mathlib.Numerals.{add-one}
 use native.Mathlib.Omega.{arith}
 use lib.ListN.{length, drop, length-drop, drop-of-length-le}
 use lib.Seq.{take-nil, take-all, take-at, drop-at, drop-cons}
-use Rattle.fields.specs.Little.{span, field}
-use Rattle.fields.specs.Bytes.{byteAt, partOf}
+use Rattle.fields.specs.{Little.span, Little.field, Bytes.byteAt, Bytes.partOf}
 use Rattle.common.specs.Width.{Byte, Bytes}
 use Rattle.common.proofs.AllLaws.{all-take, all-drop}
 

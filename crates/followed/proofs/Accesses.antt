@@ -7,15 +7,12 @@ use native.Mathlib.Omega.{arith}
 use lib.Dec.{T}
 use lib.ListN.{length}
 use Rattle.bus.proofs.Adds.{logs, read-adds, read-logged, write-adds, write-logged}
-use Rattle.bus.specs.Access.{pushAccess, registerRead}
-use Rattle.bus.specs.Route.{routeOf, placeOf}
+use Rattle.bus.specs.{Access.pushAccess, Access.registerRead, Route.routeOf, Route.placeOf}
 use Rattle.bus.specs.View.{withIo, withChannel, withMdmaen, withCore}
 use Rattle.bus.specs.World.{World, placeAt, readAt, writeAt}
 use Rattle.bus.specs.declared.route.Route.{Route}
 use Rattle.bus.specs.declared.route.Route.the-variants.{Bank7E, Bank7F, Data, Registers, Cartridge}
-use Rattle.registers.specs.declared.Io.{Io}
-use Rattle.registers.specs.declared.channel.DmaChannel.{DmaChannel}
-use Rattle.registers.specs.declared.wm_address.WmAddress.{WmAddress}
+use Rattle.registers.specs.declared.{Io.Io, channel.DmaChannel.DmaChannel, wm_address.WmAddress.WmAddress}
 use Rattle.touch.proofs.Wmadd.{asRead, asWrite, read-wmadd, write-wmadd}
 use Rattle.wram.specs.Banks.{Banks, peeked}
 use Rattle.wram.specs.declared.Place.the-variants.{Nowhere}

@@ -9,8 +9,7 @@ use Rattle.machine.specs.Event.{pressed, vblankStarted, frameStarted, evented, 
 use Rattle.machine.specs.declared.event.Event.{Event}
 use Rattle.machine.specs.declared.event.Event.the-variants.{Nothing, HBlankStart, NormalLine, VBlankStart, FrameStart}
 use Rattle.registers.specs.Write.{irqDisabled}
-use Rattle.registers.specs.declared.Io.{Io}
-use Rattle.registers.specs.declared.pads.AutoJoypad.{AutoJoypad}
+use Rattle.registers.specs.declared.{Io.Io, pads.AutoJoypad.AutoJoypad}
 use Rattle.registers.specs.declared.pads.AutoJoypad.the-variants.{Idle, Pending, Reading}
 use Rattle.signals.specs.AutoJoypad.{stepFrom, autoStep, autoStart}
 

@@ -8,8 +8,7 @@ use lib.Dec.{eqb, ltb}
 use lib.ListN.{length}
 use Rattle.common.proofs.TableLaws.{pick-elim}
 use Rattle.bus.proofs.Adds.{logs}
-use Rattle.bus.specs.Access.{opened}
-use Rattle.bus.specs.View.{channelOf, mdmaenOf}
+use Rattle.bus.specs.{Access.opened, View.channelOf, View.mdmaenOf}
 use Rattle.dma.specs.Cycle.{Held, startPending, dueOf, actBy, acted, updated}
 use Rattle.dma.specs.General.{afterByte, onBanks, stepFrom, dmaStep}
 use Rattle.dma.specs.Pass.{unqueued, hdmaStep}
@@ -17,19 +16,14 @@ use Rattle.hdma.specs.Engine.{DmaWorld, at}
 use Rattle.hdma.specs.declared.engine.DmaCore.{DmaCore}
 use Rattle.machine.specs.Cycle.{begun, cycled}
 use Rattle.machine.specs.declared.event.Event.{Event}
-use Rattle.state.specs.declared.DmaProgress.{DmaProgress}
-use Rattle.state.specs.declared.DmaProgress.the-variants.{Nothing, At}
-use Rattle.state.specs.declared.DmaState.{DmaState}
-use Rattle.state.specs.declared.DmaState.the-variants.{Idle, Startup, Dma as General, Hdma}
+use Rattle.state.specs.declared.{DmaProgress.DmaProgress, DmaProgress.the-variants.Nothing, DmaProgress.the-variants.At, DmaState.DmaState}
 use Rattle.state.specs.declared.Machine.{Machine}
-use Rattle.transfer.specs.Bits.{lowest, down}
-use Rattle.transfer.specs.Byte.{transferByte}
+use Rattle.state.specs.declared.DmaState.the-variants.{Idle, Startup, Dma as General, Hdma}
+use Rattle.transfer.specs.{Bits.lowest, Bits.down, Byte.transferByte}
 use Rattle.wram.specs.Banks.{banks}
 use Rattle.followed.specs.Standing.{wmAt, ramAt, Stands}
 use Rattle.followed.proofs.Accesses.{Follows, follows-none, follows-trans, follows-more, channel-follows, mdmaen-follows}
-use Rattle.followed.proofs.Before.{before-kept}
-use Rattle.followed.proofs.Moves.{transfer-follows}
-use Rattle.followed.proofs.Turns.{init-follows, line-follows}
+use Rattle.followed.proofs.{Before.before-kept, Moves.transfer-follows, Turns.init-follows, Turns.line-follows}
 
 module _ (rom : List ℕ) where
   step-follows : (p : DmaProgress) (m : DmaWorld) → Follows 2 (m .world) (stepFrom rom p m .world)

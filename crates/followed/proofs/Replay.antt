@@ -8,8 +8,7 @@ use borrow.Author.Tests.{ltb-true, ltb-false}
 use lib.Dec.{ltb}
 use lib.ListN.{getD}
 use Rattle.bus.proofs.Adds.{logs}
-use Rattle.bus.specs.Access.{noAccess}
-use Rattle.bus.specs.World.{World}
+use Rattle.bus.specs.{Access.noAccess, World.World}
 use Rattle.bus.specs.declared.access.Access.{Access}
 use Rattle.registers.specs.declared.wm_address.WmAddress.{WmAddress}
 use Rattle.touch.specs.Reach.{spotOf, wmAfter, reachOf}

@@ -5,11 +5,9 @@ use mathlib.Core.List.{List}
 use native.Mathlib.Omega.{arith}
 use lib.Dec.{eqb}
 use Rattle.common.proofs.TableLaws.{pick-elim}
-use Rattle.transfer.specs.Bits.{flagOf}
-use Rattle.transfer.specs.Table.{tableRead}
-use Rattle.hdma.specs.Engine.{DmaWorld, hdmaAt}
+use Rattle.transfer.specs.{Bits.flagOf, Table.tableRead}
+use Rattle.hdma.specs.{Engine.DmaWorld, Engine.hdmaAt, Line.lineChannel}
 use Rattle.hdma.specs.Entry.{Reloaded, indirectAt, reloaded, rewound, initChannel}
-use Rattle.hdma.specs.Line.{lineChannel}
 use Rattle.followed.proofs.Accesses.{Follows, follows-none, follows-trans, follows-more, channel-follows}
 use Rattle.followed.proofs.Moves.{table-follows, das-follows, sent-follows}
 

@@ -6,9 +6,8 @@ use mathlib.Core.Logic.{inl, inr}
 use mathlib.Core.Path.{_≡_, refl, subst}
 use lib.Dec.{eqb, ltb}
 use Rattle.common.proofs.TableLaws.{pick-elim}
-use Rattle.bus.specs.Access.{noLog, opened}
+use Rattle.bus.specs.{Access.noLog, Access.opened, World.World}
 use Rattle.bus.specs.View.{channelOf, withChannel, mdmaenOf, withMdmaen}
-use Rattle.bus.specs.World.{World}
 use Rattle.dma.specs.Cycle.{Held, startPending, dueOf, cycleFrom, alignedWait, actBy, acted, updated}
 use Rattle.dma.specs.General.{afterByte, onBanks, stepFrom, dmaStep}
 use Rattle.dma.specs.Pass.{hdmaStep}
@@ -16,17 +15,13 @@ use Rattle.hdma.specs.Engine.{DmaWorld, at}
 use Rattle.hdma.specs.declared.engine.DmaCore.{DmaCore}
 use Rattle.machine.specs.Cycle.{armed, begun, cycled}
 use Rattle.machine.specs.declared.event.Event.{Event}
-use Rattle.state.specs.declared.Dma.{Dma}
-use Rattle.state.specs.declared.DmaProgress.{DmaProgress}
-use Rattle.state.specs.declared.DmaProgress.the-variants.{Nothing, At}
-use Rattle.state.specs.declared.DmaState.{DmaState}
+use Rattle.state.specs.declared.{Dma.Dma, DmaProgress.DmaProgress, DmaProgress.the-variants.Nothing, DmaProgress.the-variants.At}
+use Rattle.state.specs.declared.{DmaState.DmaState, Machine.Machine}
 use Rattle.state.specs.declared.DmaState.the-variants.{Idle, Startup, Dma as Transfer, Hdma as Pass}
-use Rattle.state.specs.declared.Machine.{Machine}
 use Rattle.touch.specs.Who.{whoFrom, whoBy, whoOf}
 use Rattle.touch.specs.declared.who.Who.{Who}
 use Rattle.touch.specs.declared.who.Who.the-variants.{Cpu, Dma as General, Hdma}
-use Rattle.transfer.specs.Bits.{lowest, down}
-use Rattle.transfer.specs.Byte.{transferByte}
+use Rattle.transfer.specs.{Bits.lowest, Bits.down, Byte.transferByte}
 use Rattle.followed.specs.Credit.{Done, unitOf, CreditedAt, Credited}
 
 same : (w : World) → Done w w

@@ -5,12 +5,8 @@ use mathlib.Core.Logic.{_⊎_}
 use mathlib.Core.Path.{_≡_}
 use Rattle.bus.specs.World.{World}
 use Rattle.dma.specs.Pass.{unqueued}
-use Rattle.hdma.specs.Engine.{at}
-use Rattle.hdma.specs.Entry.{initChannel}
-use Rattle.hdma.specs.Line.{lineChannel}
-use Rattle.state.specs.declared.Dma.{Dma}
-use Rattle.state.specs.declared.DmaProgress.{DmaProgress}
-use Rattle.state.specs.declared.DmaProgress.the-variants.{Nothing, At}
+use Rattle.hdma.specs.{Engine.at, Entry.initChannel, Line.lineChannel}
+use Rattle.state.specs.declared.{Dma.Dma, DmaProgress.DmaProgress, DmaProgress.the-variants.Nothing, DmaProgress.the-variants.At}
 use Rattle.touch.specs.declared.who.Who.{Who}
 use Rattle.touch.specs.declared.who.Who.the-variants.{Cpu, Dma as General, Hdma}
 use Rattle.transfer.specs.Byte.{transferByte}

@@ -7,15 +7,12 @@ use mathlib.Core.Logic.{_≢_}
 use mathlib.Core.Path.{_≡_}
 use lib.ListN.{getD}
 use Rattle.common.specs.Pick.{pick}
-use Rattle.bus.specs.Access.{noAccess}
-use Rattle.bus.specs.Route.{routeOf, placeOf}
-use Rattle.bus.specs.World.{World}
+use Rattle.bus.specs.{Access.noAccess, Route.routeOf, Route.placeOf, World.World}
 use Rattle.bus.specs.declared.access.Access.{Access}
 use Rattle.registers.specs.declared.wm_address.WmAddress.{WmAddress}
 use Rattle.touch.specs.Reach.{wmAfter}
 use Rattle.wram.specs.Banks.{Banks, peeked, poked}
-use Rattle.wram.specs.declared.Place.{Place}
-use Rattle.wram.specs.declared.Place.the-variants.{Nowhere}
+use Rattle.wram.specs.declared.{Place.Place, Place.the-variants.Nowhere}
 
 -- WMADD after the first n accesses, from s before the first
 unfoldable pub wmAt : WmAddress → List Access → ℕ → WmAddress

@@ -8,8 +8,7 @@ use Rattle.bus.specs.declared.access.Core.{Core}
 use Rattle.common.specs.Pick.{pick}
 use Rattle.bus.proofs.Channels.{channel-put}
 use Rattle.registers.specs.Groups.{withDmaChannel-a1t}
-use Rattle.transfer.specs.Bits.{flagOf}
-use Rattle.transfer.specs.Byte.{stepA1t}
+use Rattle.transfer.specs.{Bits.flagOf, Byte.stepA1t}
 
 module _ (k : Core) (ch dmap : ℕ) (whole : length (k .io .channels) ≡ 8) where
   abbrev a1t : ℕ

@@ -15,8 +15,7 @@ use Rattle.bus.proofs.Channels.{channel-put}
 use Rattle.fullsnes.specs.Said.{bytesOf, dasAfter, Lasts}
 use Rattle.hdma.specs.declared.engine.DmaCore.{DmaCore}
 use Rattle.registers.specs.Groups.{withDmaChannel-das}
-use Rattle.state.specs.declared.Dma.{Dma}
-use Rattle.state.specs.declared.DmaProgress.the-variants.{Nothing, At}
+use Rattle.state.specs.declared.{Dma.Dma, DmaProgress.the-variants.Nothing, DmaProgress.the-variants.At}
 use Rattle.transfer.specs.Bits.{down}
 
 module _ (das : ℕ) (word : das < 65536) where

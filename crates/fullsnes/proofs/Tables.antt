@@ -10,10 +10,8 @@ use lib.ListN.{length}
 use Rattle.common.specs.Pick.{pick}
 use Rattle.fullsnes.proofs.Views.{hdma-put, hdma-length}
 use Rattle.fullsnes.specs.Said.{linesOf, transfersOn, linesAfter}
-use Rattle.hdma.specs.Engine.{hdmaAt}
-use Rattle.hdma.specs.Entry.{counted}
-use Rattle.state.specs.declared.Dma.{Dma}
-use Rattle.state.specs.declared.HdmaChannelState.{HdmaChannelState}
+use Rattle.hdma.specs.{Engine.hdmaAt, Entry.counted}
+use Rattle.state.specs.declared.{Dma.Dma, HdmaChannelState.HdmaChannelState}
 use Rattle.transfer.specs.Bits.{flagOf, down}
 
 -- whether the low seven bits are 0, and bit 7

@@ -7,11 +7,9 @@ use lib.Dec.{eqb}
 use Rattle.common.proofs.TableLaws.{pick-elim}
 use Rattle.bus.proofs.Adds.{Adds, adds-none, adds-trans, adds-more, channel-adds}
 use Rattle.transfer.proofs.Adds.{table-adds, das-adds, sent-adds}
-use Rattle.transfer.specs.Bits.{flagOf}
-use Rattle.transfer.specs.Table.{tableRead}
-use Rattle.hdma.specs.Engine.{DmaWorld, hdmaAt}
+use Rattle.transfer.specs.{Bits.flagOf, Table.tableRead}
+use Rattle.hdma.specs.{Engine.DmaWorld, Engine.hdmaAt, Line.lineChannel}
 use Rattle.hdma.specs.Entry.{Reloaded, indirectAt, reloaded, rewound, initChannel}
-use Rattle.hdma.specs.Line.{lineChannel}
 
 module _ (rom : List ℕ) (m : DmaWorld) (ch : ℕ) where
   pub reload-adds : (ind : Bool) → Adds 3 0 (m .world) (reloaded rom m ch ind .after .world)

@@ -6,17 +6,15 @@ use mathlib.Core.Path.{_∙_}
 use native.Mathlib.Omega.{arith}
 use lib.Dec.{eqb}
 use lib.ListN.{length-set}
-use Rattle.common.proofs.AllLaws.{all-set, all-getD}
-use Rattle.common.proofs.TableLaws.{pick-elim}
+use Rattle.common.proofs.{AllLaws.all-set, AllLaws.all-getD, TableLaws.pick-elim}
 use Rattle.bus.proofs.FitLaws.{channel-fits, with-channel-fits, FitWorld}
-use Rattle.common.specs.Width.{Byte, Long, Bytes}
+use Rattle.common.specs.Width.{Byte, Bytes}
+use Rattle.registers.proofs.Fit.{Long}
 use Rattle.state.proofs.Fit.{FitHdma, FitDma}
-use Rattle.state.specs.declared.Dma.{Dma}
-use Rattle.state.specs.declared.HdmaChannelState.{HdmaChannelState}
+use Rattle.state.specs.declared.{Dma.Dma, HdmaChannelState.HdmaChannelState}
 use Rattle.transfer.proofs.Adds.{sent-bytes}
 use Rattle.transfer.proofs.FitLaws.{sent-fits, table-fits, das-fits}
-use Rattle.transfer.specs.Bits.{flagOf}
-use Rattle.transfer.specs.Table.{tableRead}
+use Rattle.transfer.specs.{Bits.flagOf, Table.tableRead}
 use Rattle.hdma.specs.Engine.{DmaWorld, hdmaAt, setHdma}
 use Rattle.state.specs.Hdma.{noHdma}
 use Rattle.hdma.specs.Entry.{Reloaded, indirectAt, started, reloaded, counted, rewound, initChannel}

@@ -9,11 +9,8 @@ use Rattle.bus.specs.World.{World, Reading}
 use Rattle.bus.specs.declared.access.Core.{Core}
 use Rattle.registers.specs.Groups.{withDmaChannel-a2a}
 use Rattle.registers.specs.declared.channel.DmaChannel.{DmaChannel}
-use Rattle.state.specs.declared.Dma.{Dma}
-use Rattle.state.specs.declared.HdmaChannelState.{HdmaChannelState}
-use Rattle.transfer.specs.Bits.{flagOf, down}
-use Rattle.transfer.specs.Table.{tableRead, dasLoaded}
-use Rattle.transfer.specs.Unit.{SentUnit, unitSent}
+use Rattle.state.specs.declared.{Dma.Dma, HdmaChannelState.HdmaChannelState}
+use Rattle.transfer.specs.{Bits.flagOf, Bits.down, Table.tableRead, Table.dasLoaded, Unit.SentUnit, Unit.unitSent}
 use Rattle.hdma.specs.Engine.{DmaWorld, at, hdmaAt, setHdma}
 use Rattle.hdma.specs.Entry.{Reloaded, ended, started, reloaded, counted, initChannel}
 use Rattle.hdma.specs.Line.{lineChannel}

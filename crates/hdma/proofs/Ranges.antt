@@ -6,11 +6,9 @@ use native.Mathlib.Omega.{arith}
 use lib.Dec.{eqb}
 use Rattle.common.proofs.TableLaws.{pick-elim}
 use Rattle.state.proofs.Ranges.{DmaOk}
-use Rattle.state.specs.declared.Dma.{Dma}
-use Rattle.state.specs.declared.HdmaChannelState.{HdmaChannelState}
+use Rattle.state.specs.declared.{Dma.Dma, HdmaChannelState.HdmaChannelState}
 use Rattle.transfer.proofs.Adds.{sent-bytes}
-use Rattle.transfer.specs.Bits.{flagOf}
-use Rattle.transfer.specs.Table.{tableRead}
+use Rattle.transfer.specs.{Bits.flagOf, Table.tableRead}
 use Rattle.hdma.specs.Engine.{DmaWorld, hdmaAt, setHdma}
 use Rattle.hdma.specs.Entry.{Reloaded, indirectAt, reloaded, counted, rewound, initChannel}
 use Rattle.hdma.specs.Line.{lineChannel}

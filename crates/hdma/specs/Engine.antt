@@ -5,10 +5,7 @@ use mathlib.Core.List.{List}
 use lib.ListN.{getD, set}
 use Rattle.bus.specs.World.{World, world}
 use Rattle.state.specs.Hdma.{noHdma}
-use Rattle.state.specs.declared.Dma.{Dma}
-use Rattle.state.specs.declared.DmaProgress.{DmaProgress}
-use Rattle.state.specs.declared.DmaState.{DmaState}
-use Rattle.state.specs.declared.HdmaChannelState.{HdmaChannelState}
+use Rattle.state.specs.declared.{Dma.Dma, DmaProgress.DmaProgress, DmaState.DmaState, HdmaChannelState.HdmaChannelState}
 use Rattle.hdma.specs.declared.engine.DmaCore.{DmaCore}
 
 abbrev pub withState : Dma → DmaState → Dma

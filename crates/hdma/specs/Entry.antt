@@ -7,10 +7,8 @@ use Rattle.common.specs.Pick.{pick}
 use Rattle.bus.specs.View.{channelOf, withChannel, withCore}
 use Rattle.bus.specs.World.{World, Reading}
 use Rattle.registers.specs.Groups.{withDmaChannel-a2a}
-use Rattle.state.specs.declared.Dma.{Dma}
-use Rattle.state.specs.declared.HdmaChannelState.{HdmaChannelState}
-use Rattle.transfer.specs.Bits.{flagOf, down}
-use Rattle.transfer.specs.Table.{tableRead, dasLoaded}
+use Rattle.state.specs.declared.{Dma.Dma, HdmaChannelState.HdmaChannelState}
+use Rattle.transfer.specs.{Bits.flagOf, Bits.down, Table.tableRead, Table.dasLoaded}
 use Rattle.hdma.specs.Engine.{DmaWorld, dmaWorld, at, hdmaAt, setHdma}
 use Rattle.hdma.specs.declared.entry.Reload.{Reload}
 

@@ -8,30 +8,23 @@ use lib.Dec.{eqb, leb, ltb}
 use lib.ListN.{set, replicate}
 use Rattle.common.specs.Pick.{pick}
 use Rattle.asbytes.specs.Answer.{encAccess, accessesPlace, answered}
-use Rattle.asbytes.specs.Crossed.{crossed}
-use Rattle.asbytes.specs.Machine.{headOf}
+use Rattle.asbytes.specs.{Crossed.crossed, Machine.headOf}
 use Rattle.asbytes.specs.Places.{slotAt, countAt, lengthAt}
-use Rattle.bus.specs.Access.{pushAccess}
-use Rattle.bus.specs.Route.{routeOf}
+use Rattle.bus.specs.{Access.pushAccess, Route.routeOf}
 use Rattle.bus.specs.declared.route.Route.{Route}
-use Rattle.decode.specs.Decode.{num}
 use Rattle.entry.specs.Slot.{writeSlot}
-use Rattle.fields.specs.Bytes.{byteAt}
+use Rattle.fields.specs.{Bytes.byteAt, Patch.patched}
 use Rattle.fields.specs.Little.{le, span, field}
-use Rattle.fields.specs.Patch.{patched}
-use Rattle.image.specs.Encode.{encOlds}
-use Rattle.image.specs.Groups.{byte, flag}
+use Rattle.image.specs.{Encode.encOlds, Groups.byte, Groups.flag}
 use Rattle.layout.specs.Layout as the
-use Rattle.layout.specs.Layout.{imageSize, entrySize}
+use Rattle.layout.specs.Layout.{num, imageSize, entrySize}
 use Rattle.registers.specs.declared.wm_address.WmAddress.{WmAddress}
-use Rattle.transfer.specs.Bits.{flagOf, down}
-use Rattle.transfer.specs.Byte.{movedLog, nextA1t}
+use Rattle.transfer.specs.{Bits.flagOf, Bits.down, Byte.movedLog, Byte.nextA1t}
 use Rattle.transfer.specs.declared.byte.Trip.{Trip}
 use Rattle.way.specs.Seen.{clockAt, nmiAt, baseAt, unitAt, dmapAt, bsideAt, tripIn}
 use Rattle.wram.specs.Banks.{banks, peeked, poked}
 use Rattle.wram.specs.Olds.{noOlds, keptAt}
-use Rattle.wram.specs.declared.Olds.{Olds}
-use Rattle.wram.specs.declared.Place.{Place}
+use Rattle.wram.specs.declared.{Olds.Olds, Place.Place}
 use Rattle.inplace.specs.OneByte.{wmaddBytes, placeFor, byteBy, byteFrom, wmaddNext, writtenNext, afterRegisters, afterUnit, afterChannel, afterMove, carried}
 use Rattle.inplace.specs.Rest.{at, counting}
 

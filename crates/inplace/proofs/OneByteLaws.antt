@@ -7,56 +7,40 @@ use native.Mathlib.Omega.{arith}
 use borrow.Author.Tests.{leb-true, ltb-true}
 use lib.Dec.{T, eqb, leb, ltb}
 use lib.ListN.{length, getD, set, length-set}
-use Rattle.common.specs.Pick.{pick}
-use Rattle.common.specs.Range.{within}
-use Rattle.common.specs.Width.{Bytes}
+use Rattle.common.specs.{Pick.pick, Range.within, Width.Bytes}
 use Rattle.common.proofs.TableLaws.{pick-elim}
-use Rattle.asbytes.specs.Answer.{answered}
-use Rattle.asbytes.specs.Crossed.{crossed, cycleCrossed}
+use Rattle.asbytes.specs.{Answer.answered, Crossed.crossed, Crossed.cycleCrossed}
 use Rattle.asbytes.specs.Machine.{headOf, benchOf, stored, saved}
 use Rattle.asbytes.specs.Places.{slotAt, countAt, lengthAt}
 use Rattle.bench.specs.Calls.{desk, cycleCall, cycleDone}
 use Rattle.bench.specs.Ring.{noted}
-use Rattle.bus.specs.Access.{opened, registerRead}
+use Rattle.bus.specs.{Access.opened, Access.registerRead, View.channelOf, View.withChannel, World.World, World.world}
 use Rattle.bus.specs.Route.{routeOf, memory, nextWm}
-use Rattle.bus.specs.View.{channelOf, withChannel}
-use Rattle.bus.specs.World.{World, world}
 use Rattle.bus.specs.declared.route.Route.{Route}
 use Rattle.bus.specs.declared.route.Route.the-variants.{Bank7E, Bank7F, Data, Registers, Cartridge}
 use Rattle.bus.proofs.Ports.{silent, port-route, port-silent, movedIo}
-use Rattle.decode.specs.Decode.{num, channelAt, channelsAt, ioAt, dmaAt, boardAt, machineAt}
-use Rattle.dma.specs.Cycle.{Held, holding}
-use Rattle.dma.specs.General.{afterByte, onBanks}
+use Rattle.decode.specs.Decode.{channelAt, channelsAt, ioAt, dmaAt, boardAt, machineAt}
+use Rattle.dma.specs.{Cycle.Held, Cycle.holding, General.afterByte, General.onBanks}
 use Rattle.dma.proofs.OneByte.{channel-moves, moves}
-use Rattle.entry.specs.Entry.{written}
-use Rattle.entry.specs.Slot.{writeSlot}
-use Rattle.fields.specs.Bytes.{byteAt}
-use Rattle.fields.specs.Little.{le, span}
-use Rattle.fields.specs.Patch.{patched}
+use Rattle.entry.specs.{Entry.written, Slot.writeSlot}
+use Rattle.fields.specs.{Bytes.byteAt, Little.le, Little.span, Patch.patched}
 use Rattle.hdma.specs.Engine.{withWait, withProgress}
 use Rattle.hdma.specs.declared.engine.DmaCore.{DmaCore}
-use Rattle.image.specs.Encode.{encOlds, encode}
-use Rattle.image.specs.Groups.{byte, flag}
+use Rattle.image.specs.{Encode.encOlds, Encode.encode, Groups.byte, Groups.flag}
 use Rattle.layout.specs.Layout as the
-use Rattle.layout.specs.Layout.{entrySize}
+use Rattle.layout.specs.Layout.{num, entrySize}
 use Rattle.machine.specs.Cycle.{Turned, turnOf, ticked, cycled}
 use Rattle.machine.specs.declared.event.Event.the-variants.{Nothing}
 use Rattle.machine.proofs.Quiet.{unit-cycle}
 use Rattle.ranges.proofs.Tests.{Every}
-use Rattle.registers.specs.Channel.{noChannel}
+use Rattle.registers.specs.{Channel.noChannel, Read.readByte}
 use Rattle.registers.specs.Groups.{withIo-channels, withDmaChannel-a1t, withDmaChannel-das}
-use Rattle.registers.specs.Read.{readByte}
-use Rattle.registers.specs.declared.Io.{Io}
-use Rattle.registers.specs.declared.channel.DmaChannel.{DmaChannel}
-use Rattle.registers.specs.declared.wm_address.WmAddress.{WmAddress}
+use Rattle.registers.specs.declared.{Io.Io, channel.DmaChannel.DmaChannel, wm_address.WmAddress.WmAddress}
 use Rattle.signals.specs.Flags.{nmiLine}
-use Rattle.state.specs.declared.Dma.{Dma}
-use Rattle.state.specs.declared.DmaProgress.{DmaProgress}
+use Rattle.state.specs.declared.{Dma.Dma, DmaProgress.DmaProgress, Machine.Machine}
 use Rattle.state.specs.declared.DmaProgress.the-variants as progress
-use Rattle.state.specs.declared.Machine.{Machine}
-use Rattle.transfer.specs.Bits.{flagOf, down}
+use Rattle.transfer.specs.{Bits.flagOf, Bits.down, Pattern.offsetOf, Pattern.bAddress}
 use Rattle.transfer.specs.Byte.{tripOf, moved, movedLog, nextA1t, stepA1t, tripAt, transferByte}
-use Rattle.transfer.specs.Pattern.{offsetOf, bAddress}
 use Rattle.transfer.specs.declared.byte.Trip.{Trip}
 use Rattle.transfer.proofs.PlainMove.{readOf, leaves, plain-move}
 use Rattle.way.specs.Seen.{clockAt, nmiAt, busyAt, baseAt, unitAt, dmapAt, a1tAt, a1bAt, dasAt, bsideAt, tripIn, seen}
@@ -152,7 +136,7 @@ abbrev laid : List ℕ → WmAddress → ℕ → List ℕ → Bool → (clock ne
 laid x w v apu nmi clock next i a d =
     let registers = patched (patched (patched x (at the.bank) (wmaddBytes w)) (at the.openbus) (byte v)) (at the.nmi) (flag nmi) in
     let unit = patched (patched registers (at the.unit) (le 4 next)) (at the.wait) (le 4 7) in
-    let channel = patched (patched unit (at (the.a1t i)) (le 2 a)) (at (the.das i)) (le 2 d) in
+    let channel = patched (patched unit (at (the.register i the.a1t)) (le 2 a)) (at (the.register i the.das)) (le 2 d) in
     patched (patched channel (at (the.written 0)) apu) (at the.clock) (le 8 clock)
 
 module _ (x : List ℕ) (w : WmAddress) (v a0 a1 a2 a3 : ℕ) (nmi : Bool) (ch u next a d : ℕ) where

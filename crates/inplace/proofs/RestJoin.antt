@@ -5,19 +5,15 @@ use mathlib.Core.List.{List, [], _++_}
 use mathlib.Core.Path.{_≡_, ap, _∙_}
 use lib.Dec.{eqb, ltb}
 use lib.ListN.{replicate}
-use Rattle.asbytes.specs.Answer.{accessesPlace, answered}
-use Rattle.asbytes.specs.Crossed.{crossed}
-use Rattle.asbytes.specs.Machine.{headOf, counted}
+use Rattle.asbytes.specs.{Answer.accessesPlace, Answer.answered, Crossed.crossed, Machine.headOf, Machine.counted}
 use Rattle.asbytes.specs.Places.{slotAt, countAt, lengthAt}
 use Rattle.bench.specs.Ring.{after}
 use Rattle.bus.specs.Access.{noLog}
-use Rattle.decode.specs.Decode.{num}
 use Rattle.entry.specs.Slot.{writeSlot}
-use Rattle.fields.specs.Little.{le}
-use Rattle.fields.specs.Patch.{patched}
+use Rattle.fields.specs.{Little.le, Patch.patched}
 use Rattle.image.specs.Groups.{byte, flag}
 use Rattle.layout.specs.Layout as the
-use Rattle.layout.specs.Layout.{entrySize, capacity}
+use Rattle.layout.specs.Layout.{num, entrySize, capacity}
 use Rattle.way.specs.Seen.{waitAt, clockAt, nmiAt}
 use Rattle.inplace.specs.Rest.{at, ticking, counting, rested}
 

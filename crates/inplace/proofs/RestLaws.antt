@@ -10,25 +10,21 @@ use lib.Dec.{eqb, ltb}
 use lib.ListN.{length, take, drop, length-append}
 use lib.Seq.{take-append-le, drop-append-le}
 use Rattle.common.specs.Width.{Bytes}
-use Rattle.asbytes.specs.Answer.{answered}
-use Rattle.asbytes.specs.Crossed.{crossed, cycleCrossed}
+use Rattle.asbytes.specs.{Answer.answered, Crossed.crossed, Crossed.cycleCrossed}
 use Rattle.asbytes.specs.Machine.{headOf, benchOf, counted, stored, saved}
 use Rattle.asbytes.specs.Places.{slotAt, countAt, lengthAt}
 use Rattle.asbytes.proofs.Head.{same, put-is, whole}
 use Rattle.bench.specs.Calls.{desk, cycleCall, cycleDone}
 use Rattle.bench.specs.Ring.{after, bench, noted}
 use Rattle.bus.specs.Access.{noLog, opened}
-use Rattle.decode.specs.Decode.{num, ioAt, dmaAt, boardAt, machineAt}
-use Rattle.entry.specs.Entry.{written}
-use Rattle.entry.specs.Slot.{writeSlot}
-use Rattle.fields.specs.Little.{le}
-use Rattle.fields.specs.Patch.{patched}
+use Rattle.decode.specs.Decode.{ioAt, dmaAt, boardAt, machineAt}
+use Rattle.entry.specs.{Entry.written, Slot.writeSlot}
+use Rattle.fields.specs.{Little.le, Patch.patched}
 use Rattle.hdma.specs.Engine.{withWait}
-use Rattle.image.specs.Encode.{encode}
-use Rattle.image.specs.Groups.{flag}
+use Rattle.image.specs.{Encode.encode, Groups.flag}
 use Rattle.image.proofs.Size.{entry-size}
 use Rattle.layout.specs.Layout as the
-use Rattle.layout.specs.Layout.{imageSize, entrySize, capacity}
+use Rattle.layout.specs.Layout.{num, imageSize, entrySize, capacity}
 use Rattle.machine.specs.Cycle.{Turned, cycled}
 use Rattle.machine.specs.declared.event.Event.the-variants.{Nothing}
 use Rattle.machine.proofs.Quiet.{left, quiet-cycle}

@@ -4,27 +4,22 @@ use mathlib.Core.Bool.{true, not, _&&_}
 use mathlib.Core.List.{List, _++_}
 use lib.Dec.{leb, ltb}
 use lib.ListN.{set}
-use Rattle.common.specs.Pick.{pick}
-use Rattle.common.specs.Range.{within}
-use Rattle.asbytes.specs.Answer.{answered}
-use Rattle.asbytes.specs.Crossed.{Crossed, crossed}
-use Rattle.asbytes.specs.Machine.{headOf}
+use Rattle.common.specs.{Pick.pick, Range.within}
+use Rattle.asbytes.specs.{Answer.answered, Crossed.Crossed, Crossed.crossed, Machine.headOf}
 use Rattle.asbytes.specs.Places.{slotAt, countAt, lengthAt}
 use Rattle.bus.specs.Route.{routeOf, placeOf, nextWm}
 use Rattle.bus.specs.declared.route.Route.{Route}
 use Rattle.bus.specs.declared.route.Route.the-variants.{Bank7E, Bank7F, Data, Registers, Cartridge}
 use Rattle.cartridge.specs.Cartridge.{romByte}
-use Rattle.decode.specs.Decode.{num, wmaddAt}
+use Rattle.decode.specs.Decode.{wmaddAt}
 use Rattle.entry.specs.Slot.{writeSlot}
-use Rattle.fields.specs.Little.{le, span}
-use Rattle.fields.specs.Patch.{patched}
+use Rattle.fields.specs.{Little.le, Little.span, Patch.patched}
 use Rattle.image.specs.Encode.{encOlds}
 use Rattle.image.specs.Groups.{byte, flag, bankByte}
 use Rattle.layout.specs.Layout as the
-use Rattle.layout.specs.Layout.{entrySize}
+use Rattle.layout.specs.Layout.{num, entrySize}
 use Rattle.registers.specs.declared.wm_address.WmAddress.{WmAddress}
-use Rattle.transfer.specs.Bits.{flagOf, down}
-use Rattle.transfer.specs.Byte.{movedLog, nextA1t}
+use Rattle.transfer.specs.{Bits.flagOf, Bits.down, Byte.movedLog, Byte.nextA1t}
 use Rattle.way.specs.Seen.{clockAt, nmiAt, busyAt, unitAt, dmapAt, a1tAt, dasAt, bsideAt, tripIn}
 use Rattle.wram.specs.Banks.{banks, peeked, poked}
 use Rattle.wram.specs.Olds.{noOlds, keptAt}
@@ -80,7 +75,7 @@ module _ (e : List ℕ) where
   -- the channel's A1T and DAS
   abbrev pub afterChannel : List ℕ → List ℕ
   afterChannel x =
-      patched (patched x (at (the.a1t (busyAt e))) (le 2 (nextA1t (dmapAt e) (a1tAt e)))) (at (the.das (busyAt e))) (le 2 (down 65536 (dasAt e)))
+      patched (patched x (at (the.register (busyAt e) the.a1t)) (le 2 (nextA1t (dmapAt e) (a1tAt e)))) (at (the.register (busyAt e) the.das)) (le 2 (down 65536 (dasAt e)))
 
   -- the image once the byte v has moved: these, then APU ports and clock
   unfoldable pub afterMove : ℕ → List ℕ

@@ -4,19 +4,15 @@ use Prim.Native.Nat.{ℕ, _+_, _-_, _%_, _^_, min}
 use mathlib.Core.Bool.{Bool, not, _&&_}
 use mathlib.Core.List.{List}
 use lib.Dec.{eqb, ltb}
-use Rattle.asbytes.specs.Answer.{answered}
-use Rattle.asbytes.specs.Crossed.{Crossed, crossed}
-use Rattle.asbytes.specs.Machine.{headOf, counted}
+use Rattle.asbytes.specs.{Answer.answered, Crossed.Crossed, Crossed.crossed, Machine.headOf, Machine.counted}
 use Rattle.asbytes.specs.Places.{slotAt, countAt, lengthAt}
 use Rattle.bench.specs.Ring.{after}
 use Rattle.bus.specs.Access.{noLog}
-use Rattle.decode.specs.Decode.{num}
 use Rattle.entry.specs.Slot.{writeSlot}
-use Rattle.fields.specs.Little.{le}
-use Rattle.fields.specs.Patch.{patched}
+use Rattle.fields.specs.{Little.le, Patch.patched}
 use Rattle.image.specs.Groups.{flag}
 use Rattle.layout.specs.Layout as the
-use Rattle.layout.specs.Layout.{entrySize, capacity}
+use Rattle.layout.specs.Layout.{num, entrySize, capacity}
 use Rattle.way.specs.Seen.{waitAt, clockAt, nmiAt}
 
 -- where a field starts

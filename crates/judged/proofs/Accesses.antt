@@ -6,13 +6,11 @@ use mathlib.Core.Path.{_≡_, refl, ap, _∙_}
 use native.Mathlib.Omega.{arith}
 use lib.ListN.{replicate}
 use Rattle.bench.specs.Calls.{Desk, desk, lentOf, eventOf, CycleOut, cycleOut, cycleCall}
-use Rattle.bench.specs.Refusal.{lentNumber}
-use Rattle.bench.specs.Ring.{bench}
+use Rattle.bench.specs.{Refusal.lentNumber, Ring.bench}
 use Rattle.bench.specs.declared.operate.CycleAnswer.{CycleAnswer}
 use Rattle.bus.specs.Access.{pushAccess, opened, ioWritten, registerRead}
-use Rattle.bus.specs.Route.{systemRoute, routeOf}
+use Rattle.bus.specs.{Route.systemRoute, Route.routeOf, World.readAt, World.writeAt}
 use Rattle.bus.specs.View.{channelOf, withChannel, mdmaenOf, withMdmaen, hdmaenOf}
-use Rattle.bus.specs.World.{readAt, writeAt}
 use Rattle.dma.specs.Cycle.{startPending, dueOf, acted, actBy, updated}
 use Rattle.dma.specs.General.{afterByte, stepFrom, dmaStep}
 use Rattle.state.specs.Hdma.{noHdma}
@@ -23,9 +21,7 @@ use Rattle.machine.specs.Event.{pressed, evented, settled, timed}
 use Rattle.ranges.specs.Machine.{machineOk}
 use Rattle.registers.specs.PowerOn.{powerOn}
 use Rattle.signals.specs.AutoJoypad.{autoStep}
-use Rattle.state.specs.declared.DmaProgress.the-variants.{At}
-use Rattle.state.specs.declared.DmaState.the-variants.{Dma as General}
-use Rattle.state.specs.declared.Machine.{Machine}
+use Rattle.state.specs.declared.{DmaProgress.the-variants.At, DmaState.the-variants.Dma as General, Machine.Machine}
 use Rattle.transfer.specs.Byte.{tripOf, moved, stepA1t, transferByte}
 use Rattle.transfer.specs.Pattern.{offsetOf}
 

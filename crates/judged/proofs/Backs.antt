@@ -6,15 +6,11 @@ use mathlib.Core.Logic.{_≢_}
 use mathlib.Core.Path.{_≡_, refl, sym, ap, _∙_}
 use native.Mathlib.Omega.{arith}
 use Rattle.bench.specs.Calls.{Desk, desk, lentOf, PlainOut, plainOut, padCall, backCall}
-use Rattle.bench.specs.Host.{padSet}
-use Rattle.bench.specs.Refusal.{lentNumber}
-use Rattle.bench.specs.Ring.{noted}
+use Rattle.bench.specs.{Host.padSet, Refusal.lentNumber, Ring.noted}
 use Rattle.bench.specs.declared.operate.Answer.{Answer}
 use Rattle.entry.proofs.Entries.{length-written}
 use Rattle.entry.specs.Entry.{decodeAt}
-use Rattle.judged.proofs.Accepted.{hostDone, back-accepted}
-use Rattle.judged.proofs.Entries.{pad-olds}
-use Rattle.judged.proofs.Rejected.{start-pad}
+use Rattle.judged.proofs.{Accepted.hostDone, Accepted.back-accepted, Entries.pad-olds, Rejected.start-pad}
 use Rattle.judged.specs.Tried.{Sizes, start}
 use Rattle.machine.specs.PowerOn.{powerOnDma, powerOnMachine}
 use Rattle.ranges.specs.Machine.{machineOk}

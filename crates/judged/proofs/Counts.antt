@@ -8,14 +8,11 @@ use mathlib.Core.Path.{_≡_, ap, _∙_}
 use lib.ListN.{length}
 use Rattle.bench.specs.Calls.{Desk, lentOf, eventOf, CycleOut, cycleOut, cycleDone, cycleCall, ReadOut, readOut, readCall, WriteOut, writeOut, writeCall, PlainOut, plainOut, padCall, plugCall, answerCall, backCall}
 use Rattle.bench.specs.Ring.{after, before, noted}
-use Rattle.bench.specs.declared.Bench.{Bench}
-use Rattle.bench.specs.declared.operate.Answer.{Answer}
-use Rattle.bench.specs.declared.operate.CycleAnswer.{CycleAnswer}
-use Rattle.bench.specs.declared.operate.ReadAnswer.{ReadAnswer}
+use Rattle.bench.specs.declared.{Bench.Bench, operate.Answer.Answer, operate.CycleAnswer.CycleAnswer, operate.ReadAnswer.ReadAnswer}
 use Rattle.bench.specs.declared.operate.WriteAnswer.{WriteAnswer}
 use Rattle.bus.specs.Access.{noAccess}
 use Rattle.bus.specs.declared.access.Log.{Log}
-use Rattle.common.specs.Fill.{Filled}
+use Rattle.common.proofs.FillLaws.{Filled}
 use Rattle.entry.specs.Entry.{decodeAt}
 use Rattle.judged.proofs.Accepted.{cycle-accepted, read-accepted, write-accepted, pad-accepted, plug-accepted, answer-accepted, back-accepted}
 use Rattle.layout.specs.Layout.{capacity}

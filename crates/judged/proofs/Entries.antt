@@ -6,13 +6,9 @@ use mathlib.Core.Path.{_≡_, refl, ap, _∙_}
 use native.Mathlib.Omega.{arith}
 use lib.ListN.{length, getD}
 use Rattle.bench.specs.Calls.{Desk, writeOut, writeCall, worldOf, plainOut, padCall}
-use Rattle.bench.specs.Host.{withIo, padSet}
-use Rattle.bench.specs.Ring.{noted}
-use Rattle.bench.specs.declared.operate.Answer.{Answer}
-use Rattle.bench.specs.declared.operate.WriteAnswer.{WriteAnswer}
-use Rattle.bus.specs.Access.{opened}
-use Rattle.bus.specs.Route.{routeOf, placeOf}
-use Rattle.bus.specs.World.{writeAt}
+use Rattle.bench.specs.{Host.withIo, Host.padSet, Ring.noted}
+use Rattle.bench.specs.declared.{operate.Answer.Answer, operate.WriteAnswer.WriteAnswer}
+use Rattle.bus.specs.{Access.opened, Route.routeOf, Route.placeOf, World.writeAt}
 use Rattle.common.proofs.FillLaws.{filled-grows, filled-none}
 use Rattle.entry.proofs.Entries.{read-written}
 use Rattle.entry.specs.Entry.{decodeAt}
@@ -25,14 +21,10 @@ use Rattle.machine.specs.PowerOn.{powerOnMachine}
 use Rattle.ranges.specs.Machine.{machineOk}
 use Rattle.state.proofs.Fit.{FitMachine}
 use Rattle.state.specs.declared.Machine.{Machine}
-use Rattle.wram.proofs.FitLaws.{no-olds-ok}
-use Rattle.wram.proofs.KeepLaws.{keep-grows}
+use Rattle.wram.proofs.{FitLaws.no-olds-ok, KeepLaws.keep-grows, Ranges.OldsOk}
 use Rattle.wram.specs.Banks.{banks}
 use Rattle.wram.specs.Olds.{noOlds, pushOld, keptAt}
-use Rattle.wram.proofs.Ranges.{OldsOk}
-use Rattle.wram.specs.declared.Old.{Old}
-use Rattle.wram.specs.declared.Olds.{Olds}
-use Rattle.wram.specs.declared.Place.the-variants.{Bank7E}
+use Rattle.wram.specs.declared.{Old.Old, Olds.Olds, Place.the-variants.Bank7E}
 
 module _ (d : Desk) (olds : Olds) (f : FitMachine (d .bench .machine)) (p : machineOk (d .bench .machine) ≡ true) (g : OldsOk olds)
     (s : d .bench .slot < capacity (length (d .entries))) where

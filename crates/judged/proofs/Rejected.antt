@@ -11,18 +11,14 @@ use lib.Seq.{getD-set-same}
 use Rattle.bench.specs.Calls.{lentOf, eventOf, CycleOut, cycleOut, cycleDone, cycleCall, costAt, ReadOut, readOut, readDone, readCall, worldOf, bused, WriteOut, writeOut, writeCall, PlainOut, plainOut, padCall, plugCall, answerCall}
 use Rattle.bench.specs.Host.{padSet, plugSet, answerSet}
 use Rattle.bench.specs.Ring.{noted}
-use Rattle.bench.specs.declared.operate.Answer.{Answer}
-use Rattle.bench.specs.declared.operate.CycleAnswer.{CycleAnswer}
-use Rattle.bench.specs.declared.operate.ReadAnswer.{ReadAnswer}
+use Rattle.bench.specs.declared.{operate.Answer.Answer, operate.CycleAnswer.CycleAnswer, operate.ReadAnswer.ReadAnswer}
 use Rattle.bench.specs.declared.operate.WriteAnswer.{WriteAnswer}
-use Rattle.bus.specs.Access.{registerRead, opened}
+use Rattle.bus.specs.{Access.registerRead, Access.opened, World.readAt, World.writeAt}
 use Rattle.bus.specs.Route.{systemRoute, routeOf, placeOf}
-use Rattle.bus.specs.World.{readAt, writeAt}
 use Rattle.judged.proofs.Accepted.{hostDone, cycle-accepted, read-accepted, write-accepted, pad-accepted, plug-accepted, answer-accepted}
 use Rattle.judged.proofs.Start.{start-lent}
 use Rattle.judged.specs.Tried.{Sizes, start}
-use Rattle.machine.specs.Cycle.{cycled}
-use Rattle.machine.specs.PowerOn.{powerOnMachine}
+use Rattle.machine.specs.{Cycle.cycled, PowerOn.powerOnMachine}
 use Rattle.registers.specs.PowerOn.{powerOn}
 use Rattle.state.specs.declared.Machine.{Machine}
 

@@ -11,8 +11,7 @@ use Rattle.bench.specs.Calls.{Desk, eventOf, CycleOut, cycleDone}
 use Rattle.bench.specs.Ring.{noted}
 use Rattle.judged.proofs.Accepted.{cycle-accepted}
 use Rattle.judged.specs.Tried.{twoSlots, Sizes, start, Run}
-use Rattle.machine.proofs.FitLaws.{power-on-fits}
-use Rattle.machine.proofs.Ranges.{power-on-ok}
+use Rattle.machine.proofs.{FitLaws.power-on-fits, Ranges.power-on-ok}
 use Rattle.machine.specs.Cycle.{Turned, cycled}
 use Rattle.rewind.proofs.Calls.{SoundDesk, lent-sound, op-keeps}
 use Rattle.rewind.specs.Rules.{cycle, obeyed}

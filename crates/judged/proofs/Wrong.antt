@@ -9,25 +9,18 @@ use lib.ListN.{length, getD}
 use lib.Seq.{length-take-le}
 use Rattle.bench.specs.Calls.{desk, lentOf, CycleOut, cycleOut, cycleCall, ReadOut, readOut, readCall, WriteOut, writeOut, writeCall, PlainOut, plainOut, hosted, padCall, plugCall, answerCall, backCall, freshCall}
 use Rattle.bench.specs.Host.{padSet, plugSet, answerSet}
-use Rattle.bench.specs.Page.{pageCall}
+use Rattle.bench.specs.{Page.pageCall, Ring.noted}
 use Rattle.bench.specs.Refusal.{cycleNumber, portNumber, addressNumber, backNumber, freshNumber, lookNumber}
-use Rattle.bench.specs.Ring.{noted}
-use Rattle.bench.specs.declared.operate.Answer.{Answer}
-use Rattle.bench.specs.declared.operate.CycleAnswer.{CycleAnswer}
-use Rattle.bench.specs.declared.operate.ReadAnswer.{ReadAnswer}
+use Rattle.bench.specs.declared.{operate.Answer.Answer, operate.CycleAnswer.CycleAnswer, operate.ReadAnswer.ReadAnswer}
 use Rattle.bench.specs.declared.operate.WriteAnswer.{WriteAnswer}
-use Rattle.bus.specs.Access.{opened}
-use Rattle.bus.specs.Route.{costOf, routeOf}
-use Rattle.bus.specs.View.{mdmaenOf, hdmaenOf}
+use Rattle.bus.specs.{Access.opened, Route.costOf, Route.routeOf, View.mdmaenOf, View.hdmaenOf}
 use Rattle.dma.specs.Cycle.{startPending, dueOf, acted, actBy, updated}
-use Rattle.judged.proofs.Counts.{read-counted, write-counted}
+use Rattle.judged.proofs.{Counts.read-counted, Counts.write-counted, Start.start-lent}
 use Rattle.judged.proofs.Rejected.{true-false, start-cycle, start-read, start-write, start-pad, start-plug, start-answer}
-use Rattle.judged.proofs.Start.{start-lent}
 use Rattle.judged.specs.Tried.{Sizes, start}
 use Rattle.layout.specs.Layout.{entrySize}
-use Rattle.machine.specs.Cycle.{armed, cycled}
+use Rattle.machine.specs.{Cycle.armed, Cycle.cycled, PowerOn.powerOnDma, PowerOn.powerOnMachine}
 use Rattle.machine.specs.Event.{pressed, evented, settled, timed}
-use Rattle.machine.specs.PowerOn.{powerOnDma, powerOnMachine}
 use Rattle.registers.specs.PowerOn.{powerOn}
 use Rattle.signals.specs.AutoJoypad.{autoStep}
 

@@ -3,9 +3,7 @@ use Prim.Native.Nat.{ℕ}
 use mathlib.Core.List.{List}
 use mathlib.Core.Path.{_≡_}
 use Rattle.bench.specs.Calls.{CycleOut, ReadOut, WriteOut, PlainOut}
-use Rattle.bench.specs.declared.operate.Answer.{Answer}
-use Rattle.bench.specs.declared.operate.CycleAnswer.{CycleAnswer}
-use Rattle.bench.specs.declared.operate.ReadAnswer.{ReadAnswer}
+use Rattle.bench.specs.declared.{operate.Answer.Answer, operate.CycleAnswer.CycleAnswer, operate.ReadAnswer.ReadAnswer}
 use Rattle.bench.specs.declared.operate.WriteAnswer.{WriteAnswer}
 
 -- an answer, both banks and the record

@@ -2,9 +2,8 @@
 use Prim.Native.Nat.{ℕ}
 use mathlib.Core.List.{List, _++_}
 use mathlib.Core.Path.{_≡_, _∙_}
-use Rattle.append.specs.Sheet.{Sheet, puts}
+use Rattle.append.specs.{Sheet.Sheet, Sheet.puts, Texts.codes}
 use Rattle.append.proofs.Laws.{then}
-use Rattle.append.specs.Texts.{codes}
 use Rattle.fields.specs.Little.{field}
 use Rattle.benchfile.specs.File.{sectionOf}
 use Rattle.lister.specs.Body.{linesText}

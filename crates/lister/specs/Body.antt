@@ -3,8 +3,7 @@ use Prim.Native.Nat.{ℕ, _+_, _*_, _/_}
 use mathlib.Core.List.{List, [], _∷_, _++_}
 use lib.ListN.{length}
 use Rattle.fields.specs.Bytes.{partOf}
-use Rattle.append.specs.Number.{hexes}
-use Rattle.append.specs.Texts.{codes, each}
+use Rattle.append.specs.{Number.hexes, Texts.codes, Texts.each}
 
 -- ` $5A` for each byte
 abbrev pub bytesText : List ℕ → List ℕ

@@ -3,11 +3,9 @@ use Prim.Native.Nat.{ℕ, _/_}
 use mathlib.Core.List.{List, _++_}
 use lib.ListN.{length}
 use Rattle.fields.specs.Little.{field}
-use Rattle.benchfile.specs.Row.{rowBytes}
-use Rattle.benchfile.specs.File.{sectionOf}
+use Rattle.benchfile.specs.{Row.rowBytes, File.sectionOf}
 use Rattle.append.specs.Texts.{codes, each}
-use Rattle.lister.specs.Body.{linesText}
-use Rattle.lister.specs.Row.{numberText, rowText}
+use Rattle.lister.specs.{Body.linesText, Row.numberText, Row.rowText}
 
 -- `bitcycles 264`
 unfoldable pub settingsText : ℕ → List ℕ

@@ -4,10 +4,8 @@ use mathlib.Core.List.{List, [], _∷_, _++_}
 use lib.Dec.{eqb}
 use Rattle.common.specs.Pick.{pick}
 use Rattle.common.specs.Table.{Entry, find, at}
-use Rattle.fields.specs.Bytes.{byteAt}
-use Rattle.append.specs.Number.{hexByte, decimal}
-use Rattle.append.specs.Texts.{codes}
-use Rattle.fields.specs.Little.{field}
+use Rattle.fields.specs.{Bytes.byteAt, Little.field}
+use Rattle.append.specs.{Number.hexByte, Number.decimal, Texts.codes}
 
 -- `read $00:4302`
 abbrev pub readText : ℕ → ℕ → ℕ → List ℕ

@@ -4,16 +4,12 @@ use mathlib.Core.Bool.{Bool, true, false}
 use mathlib.Core.List.{List, _++_}
 use mathlib.Core.Path.{_≡_, sym, _∙_}
 use lib.Dec.{eqb, ltb}
-use Rattle.append.specs.Number.{decimal, padded}
-use Rattle.append.specs.Sheet.{Sheet, puts}
-use Rattle.append.specs.Texts.{codes}
+use Rattle.append.specs.{Number.decimal, Number.padded, Sheet.Sheet, Sheet.puts, Texts.codes}
 use Rattle.append.proofs.Laws.{then, puts-none}
-use Rattle.bus.specs.declared.access.Access.{Access}
-use Rattle.bus.specs.declared.access.Log.{Log}
+use Rattle.bus.specs.declared.{access.Access.Access, access.Log.Log}
 use Rattle.state.specs.declared.Machine.{Machine}
 use Rattle.touch.specs.Who.{whoOf, startsAtZero}
-use Rattle.touch.specs.declared.reach.Reach.{Reach}
-use Rattle.touch.specs.declared.who.Who.{Who}
+use Rattle.touch.specs.declared.{reach.Reach.Reach, who.Who.Who}
 use Rattle.wording.specs.Words.{wordsOf}
 use Rattle.listing.specs.Line.{headText, whoText, verbText, addressText, spotText, ownText, zeroText, shows, accessText}
 use Rattle.listing.specs.Cycle.{logText, edgeText, cycleText}

@@ -5,19 +5,15 @@ use mathlib.Core.List.{List, [], _∷_}
 use native.Mathlib.Omega.{arith}
 use lib.Dec.{eqb, ltb}
 use lib.ListN.{length, getD, length-append}
-use Rattle.common.proofs.AllLaws.{_also_}
-use Rattle.common.proofs.TableLaws.{pick-elim, find-elim}
+use Rattle.common.proofs.{AllLaws._also_, TableLaws.pick-elim, TableLaws.find-elim}
 use Rattle.append.specs.Number.{decimal}
 use Rattle.append.proofs.Decimal.{most, most-padded}
 use Rattle.bus.specs.Access.{noAccess}
-use Rattle.bus.specs.declared.access.Access.{Access}
-use Rattle.bus.specs.declared.access.Log.{Log}
+use Rattle.bus.specs.declared.{access.Access.Access, access.Log.Log}
 use Rattle.registers.specs.declared.wm_address.WmAddress.{WmAddress}
 use Rattle.state.specs.declared.Machine.{Machine}
-use Rattle.touch.specs.Reach.{reachOf}
-use Rattle.touch.specs.Who.{whoOf, startsAtZero}
-use Rattle.touch.specs.declared.reach.Reach.{Reach}
-use Rattle.touch.specs.declared.who.Who.{Who}
+use Rattle.touch.specs.{Reach.reachOf, Who.whoOf, Who.startsAtZero}
+use Rattle.touch.specs.declared.{reach.Reach.Reach, who.Who.Who}
 use Rattle.touch.specs.declared.who.Who.the-variants.{Cpu, Dma as General, Hdma}
 use Rattle.wording.specs.Words.{refusals, pageWords, wordsOf}
 use Rattle.listing.specs.Line.{headText, whoText, verbText, spotText, ownText, zeroText, shows, accessText}

@@ -9,14 +9,11 @@ use lib.ListN.{getD}
 use Rattle.append.specs.Sheet.{Sheet, puts}
 use Rattle.append.proofs.Laws.{first, puts-none}
 use Rattle.bus.specs.Access.{noAccess}
-use Rattle.bus.specs.declared.access.Access.{Access}
-use Rattle.bus.specs.declared.access.Log.{Log}
+use Rattle.bus.specs.declared.{access.Access.Access, access.Log.Log}
 use Rattle.registers.specs.declared.wm_address.WmAddress.{WmAddress}
 use Rattle.touch.specs.Reach.{reachOf}
-use Rattle.touch.specs.declared.reach.Reach.{Reach}
-use Rattle.touch.specs.declared.who.Who.{Who}
-use Rattle.listing.specs.Line.{accessText}
-use Rattle.listing.specs.Cycle.{accessesFrom, logText}
+use Rattle.touch.specs.declared.{reach.Reach.Reach, who.Who.Who}
+use Rattle.listing.specs.{Line.accessText, Cycle.accessesFrom, Cycle.logText}
 use Rattle.listing.specs.declared.line.Line.{Line}
 
 -- the next access, and the rest with WMADD as it left it

@@ -7,12 +7,10 @@ use lib.ListN.{getD}
 use Rattle.common.specs.Pick.{pick}
 use Rattle.append.specs.Texts.{codes}
 use Rattle.bus.specs.Access.{noAccess}
-use Rattle.bus.specs.declared.access.Access.{Access}
-use Rattle.bus.specs.declared.access.Log.{Log}
+use Rattle.bus.specs.declared.{access.Access.Access, access.Log.Log}
 use Rattle.registers.specs.declared.wm_address.WmAddress.{WmAddress}
 use Rattle.state.specs.declared.Machine.{Machine}
-use Rattle.touch.specs.Reach.{reachOf}
-use Rattle.touch.specs.Who.{whoOf, startsAtZero}
+use Rattle.touch.specs.{Reach.reachOf, Who.whoOf, Who.startsAtZero}
 use Rattle.listing.specs.Line.{headText, accessText}
 use Rattle.listing.specs.declared.line.Line.{Line}
 

@@ -3,8 +3,7 @@ use Prim.Native.Nat.{ℕ, _/_, _%_}
 use mathlib.Core.List.{List, [], _∷_, _++_}
 use lib.Dec.{eqb, ltb}
 use Rattle.common.specs.Pick.{pick}
-use Rattle.append.specs.Number.{decimal}
-use Rattle.append.specs.Texts.{codes}
+use Rattle.append.specs.{Number.decimal, Texts.codes}
 use Rattle.wording.specs.Words.{wordsOf}
 use Rattle.listing.specs.Line.{headText}
 

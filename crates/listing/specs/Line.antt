@@ -7,8 +7,7 @@ use Rattle.common.specs.Pick.{pick}
 use Rattle.append.specs.Number.{padded, glyphOf, hexByte}
 use Rattle.append.specs.Texts.{codes}
 use Rattle.bus.specs.declared.access.Access.{Access}
-use Rattle.touch.specs.declared.reach.Reach.{Reach}
-use Rattle.touch.specs.declared.who.Who.{Who}
+use Rattle.touch.specs.declared.{reach.Reach.Reach, who.Who.Who}
 use Rattle.touch.specs.declared.who.Who.the-variants.{Cpu, Dma as General, Hdma}
 use Rattle.listing.specs.declared.line.Line.{Line}
 

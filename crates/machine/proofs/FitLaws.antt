@@ -5,24 +5,18 @@ use mathlib.Core.List.{List}
 use mathlib.Core.Path.{refl}
 use native.Mathlib.Omega.{arith}
 use lib.Dec.{eqb}
-use Rattle.common.proofs.AllLaws.{all-replicate}
-use Rattle.common.proofs.TableLaws.{pick-elim}
+use Rattle.common.proofs.{AllLaws.all-replicate, TableLaws.pick-elim}
 use Rattle.bus.proofs.FitLaws.{opened-fits}
 use Rattle.dma.proofs.FitLaws.{updated-fits}
 use Rattle.hdma.proofs.FitLaws.{FitDmaWorld}
-use Rattle.registers.proofs.FitGroups.{fit-pads}
-use Rattle.registers.proofs.FitKept.{fit-power-on}
-use Rattle.registers.proofs.FitParts.{fit-buttons}
-use Rattle.registers.proofs.Fit.{FitIo}
+use Rattle.registers.proofs.{FitGroups.fit-pads, FitKept.fit-power-on, FitParts.fit-buttons, Fit.FitIo}
 use Rattle.common.specs.Width.{Word, Bytes}
 use Rattle.registers.specs.Write.{irqDisabled}
 use Rattle.registers.specs.declared.Io.{Io}
 use Rattle.signals.proofs.FitKept.{fit-nmi-flag, fit-timeup-flag, fit-hvbjoy, fit-auto-start, fit-auto-step}
 use Rattle.state.specs.Hdma.{noHdma}
 use Rattle.state.proofs.Fit.{FitHdma, FitDma, FitBoard, FitMachine}
-use Rattle.state.specs.declared.Board.{Board}
-use Rattle.state.specs.declared.Dma.{Dma}
-use Rattle.state.specs.declared.Machine.{Machine}
+use Rattle.state.specs.declared.{Board.Board, Dma.Dma, Machine.Machine}
 use Rattle.machine.specs.Cycle.{machineAfter, armed, ticked, begun, cycled}
 use Rattle.machine.specs.Event.{pressed, vblankStarted, frameStarted, evented, settled, timed}
 use Rattle.machine.specs.PowerOn.{powerOnDma, powerOnMachine}

@@ -3,17 +3,13 @@ use Prim.Native.Nat.{ℕ}
 use mathlib.Core.Bool.{Bool}
 use mathlib.Core.List.{List}
 use mathlib.Core.Path.{_≡_}
-use Rattle.bus.specs.Access.{opened}
-use Rattle.bus.specs.View.{hdmaenOf}
-use Rattle.bus.specs.World.{world}
+use Rattle.bus.specs.{Access.opened, View.hdmaenOf, World.world}
 use Rattle.bus.specs.declared.access.Core.{Core}
 use Rattle.dma.specs.Cycle.{Held, updated}
 use Rattle.hdma.specs.Engine.{at}
 use Rattle.registers.specs.declared.Io.{Io}
 use Rattle.signals.specs.Flags.{nmiLine}
-use Rattle.state.specs.declared.Board.{Board}
-use Rattle.state.specs.declared.Dma.{Dma}
-use Rattle.state.specs.declared.Machine.{Machine}
+use Rattle.state.specs.declared.{Board.Board, Dma.Dma, Machine.Machine}
 use Rattle.machine.specs.Cycle.{armed, rising, ticked, Turned, cycled}
 use Rattle.machine.specs.Event.{settled, timed, isFrame}
 use Rattle.machine.specs.declared.event.Event.{Event}

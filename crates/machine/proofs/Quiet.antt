@@ -6,21 +6,16 @@ use mathlib.Core.Path.{_≡_, refl, ap, _∙_}
 use lib.Bits.{bitAnd}
 use lib.Dec.{eqb, ltb}
 use Rattle.common.specs.Pick.{pick}
-use Rattle.bus.specs.Access.{opened}
-use Rattle.bus.specs.View.{mdmaenOf, hdmaenOf}
-use Rattle.bus.specs.World.{world}
+use Rattle.bus.specs.{Access.opened, View.mdmaenOf, View.hdmaenOf, World.world}
 use Rattle.dma.specs.Cycle.{Held, cycleFrom, updated}
 use Rattle.dma.proofs.Quiet.{start-same, calm}
 use Rattle.hdma.specs.Engine.{at, withWait, withPending, withInit}
 use Rattle.registers.specs.Groups.{withIo-pads, withPads-port1, withPads-port2}
-use Rattle.registers.specs.declared.Io.{Io}
+use Rattle.registers.specs.declared.{Io.Io, pads.Pads.Pads}
 use Rattle.registers.specs.declared.pads.AutoJoypad.the-variants as auto
-use Rattle.registers.specs.declared.pads.Pads.{Pads}
-use Rattle.signals.specs.AutoJoypad.{stepFrom, autoStep}
-use Rattle.signals.specs.Flags.{nmiLine}
-use Rattle.state.specs.declared.Dma.{Dma}
+use Rattle.signals.specs.{AutoJoypad.stepFrom, AutoJoypad.autoStep, Flags.nmiLine}
+use Rattle.state.specs.declared.{Dma.Dma, Machine.Machine}
 use Rattle.state.specs.declared.DmaState.the-variants as state
-use Rattle.state.specs.declared.Machine.{Machine}
 use Rattle.machine.specs.Cycle.{armed, rising, ticked, Turned, turnOf, cycled}
 use Rattle.machine.specs.Event.{pressed, evented, settled, timed}
 use Rattle.machine.specs.declared.event.Event.the-variants.{Nothing}

@@ -9,22 +9,17 @@ use Rattle.common.proofs.TableLaws.{pick-elim}
 use Rattle.bus.proofs.FitLaws.{mdmaen-fits, olds-ok}
 use Rattle.dma.proofs.Ranges.{updated-ok}
 use Rattle.joypad.proofs.Buttons.{low-bits}
-use Rattle.registers.specs.PowerOn.{powerOn}
-use Rattle.registers.proofs.Ranges.{AutoOk}
-use Rattle.registers.proofs.PadsLaws.{SameButtons, Undisturbed}
-use Rattle.registers.specs.Write.{irqDisabled}
-use Rattle.registers.specs.declared.Io.{Io}
-use Rattle.registers.specs.declared.pads.Pads.{Pads}
+use Rattle.registers.specs.{PowerOn.powerOn, Write.irqDisabled}
+use Rattle.registers.proofs.{Ranges.AutoOk, PadsLaws.SameButtons, PadsLaws.Undisturbed}
+use Rattle.registers.specs.declared.{Io.Io, pads.Pads.Pads}
 use Rattle.signals.proofs.RangesKept.{auto-step-ok, auto-start-ok, auto-step-buttons, auto-start-buttons}
 use Rattle.signals.specs.Flags.{setNmiFlag, setVblank, setHblank}
 use Rattle.state.proofs.Fit.{FitMachine}
 use Rattle.state.proofs.Ranges.{DmaOk, PadsOk, MachineOk}
-use Rattle.state.specs.declared.Dma.{Dma}
-use Rattle.state.specs.declared.Machine.{Machine}
+use Rattle.state.specs.declared.{Dma.Dma, Machine.Machine}
 use Rattle.wram.proofs.Ranges.{OldsOk}
 use Rattle.common.specs.Width.{Bytes}
-use Rattle.machine.proofs.Adds.{cycle-recorded}
-use Rattle.machine.proofs.FitLaws.{begun-fits, cycle-fits}
+use Rattle.machine.proofs.{Adds.cycle-recorded, FitLaws.begun-fits, FitLaws.cycle-fits}
 use Rattle.machine.specs.Cycle.{machineAfter, armed, settledOf, begun, cycled}
 use Rattle.machine.specs.Event.{pressed, vblankStarted, frameStarted, evented, settled, timed}
 use Rattle.machine.specs.PowerOn.{powerOnDma, powerOnMachine}

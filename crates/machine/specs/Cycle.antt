@@ -4,19 +4,14 @@ use mathlib.Core.Bool.{Bool, not, _&&_, _||_}
 use mathlib.Core.List.{List}
 use lib.Dec.{eqb}
 use Rattle.common.specs.Pick.{pick}
-use Rattle.bus.specs.Access.{opened}
-use Rattle.bus.specs.View.{hdmaenOf}
-use Rattle.bus.specs.World.{world}
+use Rattle.bus.specs.{Access.opened, View.hdmaenOf, World.world}
 use Rattle.dma.specs.Cycle.{Held, updated}
 use Rattle.hdma.specs.Engine.{DmaWorld, at, withPending, withInit}
 use Rattle.registers.specs.declared.Io.{Io}
 use Rattle.signals.specs.Flags.{nmiLine}
-use Rattle.state.specs.declared.Board.{Board}
-use Rattle.state.specs.declared.Dma.{Dma}
-use Rattle.state.specs.declared.Machine.{Machine}
+use Rattle.state.specs.declared.{Board.Board, Dma.Dma, Machine.Machine}
 use Rattle.machine.specs.Event.{settled, timed, isFrame}
-use Rattle.machine.specs.declared.cycle.Turn.{Turn}
-use Rattle.machine.specs.declared.event.Event.{Event}
+use Rattle.machine.specs.declared.{cycle.Turn.Turn, event.Event.Event}
 
 -- with HDMAEN not 0 a line due makes a pass pending, and a frame's start one that initialises; a frame's start inside a pass has the
 -- channels that are left in its queue initialise

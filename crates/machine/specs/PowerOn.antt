@@ -4,10 +4,7 @@ use mathlib.Core.Bool.{false}
 use lib.ListN.{replicate}
 use Rattle.state.specs.Hdma.{noHdma}
 use Rattle.registers.specs.PowerOn.{powerOn}
-use Rattle.state.specs.declared.Dma.{Dma}
-use Rattle.state.specs.declared.DmaProgress.the-variants.{Nothing}
-use Rattle.state.specs.declared.DmaState.the-variants.{Idle}
-use Rattle.state.specs.declared.Machine.{Machine}
+use Rattle.state.specs.declared.{Dma.Dma, DmaProgress.the-variants.Nothing, DmaState.the-variants.Idle, Machine.Machine}
 
 -- the DMA unit
 unfoldable pub powerOnDma : Dma

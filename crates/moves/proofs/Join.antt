@@ -13,16 +13,13 @@ use Rattle.benchfile.proofs.row.Row.{the-type}
 use Rattle.benchfile.specs.declared.row.Row.{Row}
 use Rattle.benchfile.specs.declared.row.Row.the-variants.{Cycles, Read, Write, Pad, Plug, Answer as Reply, Back, Broken}
 use Rattle.bus.specs.declared.access.Access.{Access}
-use Rattle.listing.specs.Cycle.{cycleText}
+use Rattle.listing.specs.{Cycle.cycleText, Line.accessText}
 use Rattle.listing.specs.Event.{backText, refusedText, endText}
-use Rattle.listing.specs.Line.{accessText}
 use Rattle.state.specs.declared.Machine.{Machine}
 use Rattle.touch.specs.Reach.{reachOf}
-use Rattle.touch.specs.declared.reach.Reach.{Reach}
-use Rattle.touch.specs.declared.who.Who.the-variants.{Cpu}
+use Rattle.touch.specs.declared.{reach.Reach.Reach, who.Who.the-variants.Cpu}
 use Rattle.walk.specs.Step.{Stepping, stepOf}
-use Rattle.walk.specs.declared.call.Answer.{Answer}
-use Rattle.walk.specs.declared.stand.Stand.{Stand}
+use Rattle.walk.specs.declared.{call.Answer.Answer, stand.Stand.Stand}
 use Rattle.moves.specs.Origin.{originOf, noted}
 use Rattle.moves.specs.Steps.{Running, listed, stepped}
 use Rattle.moves.specs.Text.{access, cpuText, returnedText, stepText}

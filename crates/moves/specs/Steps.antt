@@ -9,8 +9,7 @@ use Rattle.append.specs.Sheet.{Sheet, sheet, puts}
 use Rattle.bench.specs.Calls.{Desk, desk}
 use Rattle.walk.specs.Step.{Stepping, stepOf}
 use Rattle.walk.specs.declared.stand.Stand.{Stand}
-use Rattle.moves.specs.Origin.{originOf, noted}
-use Rattle.moves.specs.Text.{stepText}
+use Rattle.moves.specs.{Origin.originOf, Origin.noted, Text.stepText}
 use Rattle.moves.specs.declared.steps.Run.{Run}
 
 -- what is lent, the origins of the record's operations, where the script stands, the refusal of the last call or 0, the text

@@ -9,15 +9,13 @@ use Rattle.bench.specs.Calls.{Desk}
 use Rattle.fields.specs.Bytes.{byteAt}
 use Rattle.benchfile.specs.Row.{rowOf, rowBytes}
 use Rattle.benchfile.specs.declared.row.Row.{Row}
-use Rattle.script.specs.Run.{Running}
-use Rattle.script.specs.Row.{rowRun}
+use Rattle.script.specs.{Run.Running, Row.rowRun}
 use Rattle.append.specs.Sheet.{Sheet, sheet, puts}
 use Rattle.append.proofs.Laws.{puts-none}
 use Rattle.printout.specs.Line.{lineText}
 use Rattle.printout.specs.Row.{Shown, shownText, rowShown}
 use Rattle.printout.specs.Rows.{Standing, after, stepped}
-use Rattle.printout.specs.declared.row.Show.{Show}
-use Rattle.printout.specs.declared.row.Show.the-variants.{Nothing, Line}
+use Rattle.printout.specs.declared.{row.Show.Show, row.Show.the-variants.Nothing, row.Show.the-variants.Line}
 
 -- what is shown of a row
 module _ (s : Sheet) {show : Show} (row kind number a b : ℕ) where

@@ -11,18 +11,14 @@ use borrow.Author.Tests.{leb-true, leb-false, le-leb, lt-leb, eq-eqb, ne-eqb}
 use Rattle.common.specs.Pick.{pick}
 use Rattle.bench.specs.declared.Bench.{Bench}
 use Rattle.bench.specs.Calls.{desk}
-use Rattle.benchfile.specs.File.{bodyOf}
-use Rattle.benchfile.specs.Row.{rowBytes, rowOf}
-use Rattle.script.specs.Run.{Running}
-use Rattle.script.specs.Row.{rowRun}
+use Rattle.benchfile.specs.{File.bodyOf, Row.rowBytes, Row.rowOf}
+use Rattle.script.specs.{Run.Running, Row.rowRun}
 use Rattle.append.specs.Sheet.{sheet, puts, shownOf}
 use Rattle.append.proofs.Laws.{puts-room}
 use Rattle.start.specs.Start.{refusalOf, startRun}
-use Rattle.printout.specs.Line.{lineText, refusedText}
-use Rattle.printout.specs.Row.{textOf, rowShown}
+use Rattle.printout.specs.{Line.lineText, Line.refusedText, Row.textOf, Row.rowShown}
 use Rattle.printout.specs.Rows.{Standing, start, after, stepped, steps}
-use Rattle.printout.specs.declared.row.Show.{Show}
-use Rattle.printout.specs.declared.row.Show.the-variants.{Line}
+use Rattle.printout.specs.declared.{row.Show.Show, row.Show.the-variants.Line}
 use Rattle.printout.specs.Trace.{linesFrom, restOf, wholeOf, zeros, traceText}
 use Rattle.printout.proofs.Most.{line-most, shown-most}
 

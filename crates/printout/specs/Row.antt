@@ -4,13 +4,10 @@ use mathlib.Core.List.{List, []}
 use Rattle.bench.specs.Calls.{Desk}
 use Rattle.fields.specs.Bytes.{byteAt}
 use Rattle.benchfile.specs.Row.{rowOf}
-use Rattle.script.specs.Run.{Running, ran}
-use Rattle.script.specs.Row.{rowRun}
+use Rattle.script.specs.{Run.Running, Run.ran, Row.rowRun}
 use Rattle.append.specs.Sheet.{Sheet, sheet, puts}
 use Rattle.printout.specs.Line.{lineText}
-use Rattle.printout.specs.declared.row.Lined.{Lined}
-use Rattle.printout.specs.declared.row.Show.{Show}
-use Rattle.printout.specs.declared.row.Show.the-variants.{Nothing, Line}
+use Rattle.printout.specs.declared.{row.Lined.Lined, row.Show.Show, row.Show.the-variants.Nothing, row.Show.the-variants.Line}
 
 -- what a row has come to, and the buffer with what is shown of it
 pub record Shown : Type 0 where

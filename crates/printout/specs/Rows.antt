@@ -9,8 +9,7 @@ use Rattle.bench.specs.Calls.{Desk, desk}
 use Rattle.benchfile.specs.Row.{rowBytes}
 use Rattle.append.specs.Sheet.{Sheet, sheet}
 use Rattle.printout.specs.Row.{Shown, rowShown}
-use Rattle.printout.specs.declared.row.Show.{Show}
-use Rattle.printout.specs.declared.rows.Stand.{Stand}
+use Rattle.printout.specs.declared.{row.Show.Show, rows.Stand.Stand}
 
 -- where a script stands: what is lent, the row to run next, the refusal of the last one or 0, the buffer
 pub record Standing : Type 0 where

@@ -6,16 +6,11 @@ use lib.ListN.{length, replicate}
 use Rattle.common.specs.Pick.{pick}
 use Rattle.append.specs.Sheet.{shownOf}
 use Rattle.bench.specs.Calls.{Desk, desk}
-use Rattle.benchfile.specs.File.{bodyOf}
-use Rattle.benchfile.specs.Row.{rowBytes, rowOf}
+use Rattle.benchfile.specs.{File.bodyOf, Row.rowBytes, Row.rowOf}
 use Rattle.script.specs.Row.{rowRun}
-use Rattle.printout.specs.Line.{refusedText}
-use Rattle.printout.specs.Row.{textOf}
-use Rattle.printout.specs.Rows.{Standing}
-use Rattle.printout.specs.declared.row.Show.{Show}
-use Rattle.printout.specs.declared.row.Show.the-variants.{Line}
-use Rattle.start.specs.Fill.{filled}
-use Rattle.start.specs.Start.{madeFor, refusalOf}
+use Rattle.printout.specs.{Line.refusedText, Row.textOf, Rows.Standing}
+use Rattle.printout.specs.declared.{row.Show.Show, row.Show.the-variants.Line}
+use Rattle.start.specs.{Fill.filled, Start.madeFor, Start.refusalOf}
 
 -- what is shown of n rows from row i on, each lent what the last left, up to a refusal
 unfoldable pub linesFrom : List ℕ → List ℕ → Show → ℕ → ℕ → Desk → List ℕ

@@ -9,8 +9,7 @@ use lib.Dec.{eqb, leb}
 use Rattle.common.specs.Pick.{pick}
 use Rattle.common.specs.Table.{Entry, find, at}
 use Rattle.reader.specs.Letter.{base36}
-use Rattle.reader.specs.declared.draft.Draft.{Draft}
-use Rattle.reader.specs.declared.draft.Opening.{Opening}
+use Rattle.reader.specs.declared.{draft.Draft.Draft, draft.Opening.Opening}
 
 -- by its fields
 abbrev pub draft : ℕ → ℕ → ℕ → ℕ → ℕ → ℕ → ℕ → ℕ → Draft

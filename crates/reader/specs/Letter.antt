@@ -3,8 +3,7 @@ use Prim.Native.Nat.{ℕ, _+_, _*_, _-_}
 use Prim.Native.Char.{code}
 use Prim.Native.String.{String, [] as []ˢ, _∷_ as _∷ˢ_}
 use mathlib.Core.List.{List, [], _∷_}
-use Rattle.common.specs.Pick.{pick}
-use Rattle.common.specs.Range.{within}
+use Rattle.common.specs.{Pick.pick, Range.within}
 use Rattle.common.specs.Table.{Entry, find, at}
 
 -- 1 line feed; 2 `;`; 3 space, tab, carriage return, comma, `=`; 4 `$`; 5 `:`; 0 any other

@@ -5,8 +5,7 @@ use mathlib.Core.List.{List, [], _∷_}
 use lib.Dec.{eqb, leb}
 use Rattle.common.specs.Pick.{pick}
 use Rattle.common.specs.Table.{Entry, find, at}
-use Rattle.reader.specs.declared.draft.Draft.{Draft}
-use Rattle.reader.specs.declared.line.Place.{Place}
+use Rattle.reader.specs.declared.{draft.Draft.Draft, line.Place.Place}
 use Rattle.reader.specs.Draft.{draft, failedOf, keywordOf, optionOf, switchOf, fileOf}
 
 -- the places of numbers: least, largest, what is expected behind it, which of its bytes go to b1, b2, b3 and b4 as document 01 lays

@@ -5,13 +5,9 @@ use mathlib.Core.List.{List, [], _∷_, foldl}
 use lib.Dec.{eqb}
 use Rattle.common.specs.Pick.{pick}
 use Rattle.common.specs.Table.{Entry, find, at}
-use Rattle.reader.specs.declared.draft.Draft.{Draft}
-use Rattle.reader.specs.declared.word.Word.{Word}
-use Rattle.reader.specs.declared.reader.Reader.{Reader}
-use Rattle.reader.specs.Letter.{signOf, digitOf}
+use Rattle.reader.specs.declared.{draft.Draft.Draft, word.Word.Word, reader.Reader.Reader}
+use Rattle.reader.specs.{Letter.signOf, Letter.digitOf, Draft.draft, Line.takenOf, Line.lineOf}
 use Rattle.reader.specs.Word.{blankWord, letterOf, dollarOf, colonOf, sortOf, worthOf}
-use Rattle.reader.specs.Draft.{draft}
-use Rattle.reader.specs.Line.{takenOf, lineOf}
 
 -- by its fields
 abbrev pub reader : Word → Draft → Reader

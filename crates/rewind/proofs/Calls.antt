@@ -13,22 +13,19 @@ use Rattle.bench.specs.Refusal.{addressOff, lentNumber, cycleNumber, portNumber
 use Rattle.bench.specs.Ring.{before, noting, noted}
 use Rattle.bus.specs.World.{readAt, writeAt}
 use Rattle.common.proofs.TableLaws.{pick-elim, pick-case, pick-map}
-use Rattle.common.specs.Pick.{pick}
+use Rattle.common.specs.{Pick.pick, Width.Bytes}
 use Rattle.entry.proofs.Entries.{length-written}
 use Rattle.entry.specs.Entry.{decodeAt}
 use Rattle.entry.specs.declared.Decoded.{Decoded}
 use Rattle.layout.specs.Layout.{entrySize, capacity}
 use Rattle.machine.specs.Cycle.{cycled}
 use Rattle.ranges.proofs.MachineLaws.{passes}
-use Rattle.rewind.proofs.Good.{Good, lawful}
-use Rattle.rewind.proofs.Slots.{after-lt}
+use Rattle.rewind.proofs.{Good.Good, Good.lawful, Slots.after-lt}
 use Rattle.rewind.specs.Promise.{Sound}
 use Rattle.rewind.specs.Rules.{Op, cycle, read, write, pad, plug, answer, Typed, Done, changed, obeyed}
 use Rattle.rewind.specs.Run.{operation, back, Reply, called, stateOf}
 use Rattle.state.specs.declared.Machine.{Machine}
-use Rattle.wram.specs.Banks.{Banks}
-use Rattle.wram.specs.Olds.{noOlds}
-use Rattle.common.specs.Width.{Bytes}
+use Rattle.wram.specs.{Banks.Banks, Olds.noOlds}
 
 -- what the table still refuses where everything lent is sound: 5, 6 and 7
 abbrev pub numberOf : Op → Machine → ℕ

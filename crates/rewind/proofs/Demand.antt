@@ -4,12 +4,9 @@ use mathlib.Core.List.{List, []}
 use mathlib.Core.Path.{refl}
 use native.Mathlib.Omega.{arith}
 use Rattle.bench.specs.Calls.{desk, emptyBench}
-use Rattle.machine.proofs.FitLaws.{power-on-fits}
-use Rattle.machine.proofs.Ranges.{power-on-ok}
-use Rattle.rewind.proofs.Fresh.{Fresh, fresh-facts}
-use Rattle.rewind.proofs.Rewinds.{Inv, promised}
-use Rattle.rewind.specs.Promise.{Lent, Demand3}
-use Rattle.rewind.specs.Run.{stateOf}
+use Rattle.machine.proofs.{FitLaws.power-on-fits, Ranges.power-on-ok}
+use Rattle.rewind.proofs.{Fresh.Fresh, Fresh.fresh-facts, Rewinds.Inv, Rewinds.promised}
+use Rattle.rewind.specs.{Promise.Lent, Promise.Demand3, Run.stateOf}
 
 begin : (rom low high entries : List ℕ) (len bitcycles : ℕ) (L : Lent rom low high entries len) (F : Fresh len bitcycles)
     → Inv rom (L .rom-bytes) (L .rom-most) len (F .some) (F .whole) (stateOf (desk (emptyBench len bitcycles) low high entries)) (desk (emptyBench len bitcycles) low high entries) []

@@ -13,24 +13,19 @@ use Rattle.bench.specs.Host.{withIo, withPads, padSet, connect, plugSet, answer
 use Rattle.bus.proofs.Adds.{Recorded, read-recorded, write-recorded}
 use Rattle.bus.proofs.FitLaws.{opened-fits, read-fits, write-fits, olds-ok, FitWorld}
 use Rattle.bus.specs.World.{World}
-use Rattle.common.proofs.AllLaws.{all-set}
-use Rattle.common.proofs.TableLaws.{pick-elim}
+use Rattle.common.proofs.{AllLaws.all-set, TableLaws.pick-elim}
 use Rattle.common.specs.Range.{within}
 use Rattle.joypad.specs.declared.ControllerPort.{ControllerPort}
-use Rattle.machine.proofs.Adds.{cycle-recorded}
-use Rattle.machine.proofs.FitLaws.{machine-fits, cycle-fits}
+use Rattle.machine.proofs.{Adds.cycle-recorded, FitLaws.machine-fits, FitLaws.cycle-fits}
 use Rattle.machine.proofs.Ranges.{undisturbed-ok, cycle-ok, cycle-olds}
-use Rattle.registers.proofs.FitGroups.{fit-pads, fit-ports}
-use Rattle.registers.proofs.Fit.{FitPort, FitIo}
+use Rattle.registers.proofs.{FitGroups.fit-pads, FitGroups.fit-ports, Fit.FitPort, Fit.FitIo}
 use Rattle.common.specs.Width.{Byte, Word, Bytes}
 use Rattle.registers.specs.declared.Io.{Io}
 use Rattle.rewind.specs.Rules.{Op, cycle, read, write, pad, plug, answer, Typed, State, world, accessed, changed, obeyed}
-use Rattle.state.proofs.Fit.{FitMachine}
-use Rattle.state.proofs.Ranges.{MachineOk}
+use Rattle.state.proofs.{Fit.FitMachine, Ranges.MachineOk}
 use Rattle.state.specs.declared.Machine.{Machine}
-use Rattle.wram.proofs.FitLaws.{no-olds-ok}
+use Rattle.wram.proofs.{FitLaws.no-olds-ok, Ranges.OldsOk}
 use Rattle.wram.specs.Olds.{noOlds, putBack, backFrom}
-use Rattle.wram.proofs.Ranges.{OldsOk}
 use Rattle.wram.specs.declared.Olds.{Olds}
 
 pub record Good (s : State) : Type 0 where

@@ -11,8 +11,7 @@ use lib.Dec.{eqb}
 use lib.ListN.{length, take}
 use Rattle.bench.specs.Calls.{Desk, lentOf, recorded, restored}
 use Rattle.bench.specs.Ring.{after, before, noted}
-use Rattle.common.specs.All.{AllOf}
-use Rattle.common.specs.Pick.{pick}
+use Rattle.common.specs.{All.AllOf, Pick.pick, Width.Bytes}
 use Rattle.entry.proofs.Entries.{read-written, other-slots}
 use Rattle.entry.specs.Entry.{decode, decodeAt}
 use Rattle.entry.specs.declared.Decoded.{Decoded}
@@ -26,7 +25,6 @@ use Rattle.rewind.specs.Promise.{Sound, Rewound}
 use Rattle.rewind.specs.Rules.{Op, Typed, State, Done, obeyed, obeyedAll}
 use Rattle.rewind.specs.Run.{Call, operation, back, TypedCall, Reply, called, deed, run, deeds, stateOf}
 use Rattle.wram.specs.Olds.{putBack}
-use Rattle.common.specs.Width.{Bytes}
 
 -- an accepted operation, and the state that it met
 pub record Past : Type 0 where

@@ -7,13 +7,10 @@ use mathlib.Core.Path.{_≡_}
 use lib.Dec.{eqb}
 use lib.ListN.{length, take}
 use Rattle.bench.specs.Calls.{Desk, desk, freshCall}
-use Rattle.common.specs.All.{AllOf}
-use Rattle.common.specs.Pick.{pick}
+use Rattle.common.specs.{All.AllOf, Pick.pick, Width.Bytes}
 use Rattle.layout.specs.Layout.{capacity}
-use Rattle.rewind.specs.History.{survivors, keptOps}
-use Rattle.rewind.specs.Rules.{Op, obeyedAll}
+use Rattle.rewind.specs.{History.survivors, History.keptOps, Rules.Op, Rules.obeyedAll}
 use Rattle.rewind.specs.Run.{Call, operation, back, TypedCall, called, run, deeds, stateOf}
-use Rattle.common.specs.Width.{Bytes}
 
 -- what is lent: a ROM that is not too long, two whole banks with any fill, a record of fresh's length; all of them bytes
 pub record Lent (rom low high entries : List ℕ) (length₀ : ℕ) : Type 0 where

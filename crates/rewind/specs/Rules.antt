@@ -9,8 +9,7 @@ use Rattle.bus.specs.World.{World, readAt, writeAt}
 use Rattle.machine.specs.Cycle.{Turned, machineAfter, cycled}
 use Rattle.common.specs.Width.{Byte, Word}
 use Rattle.state.specs.declared.Machine.{Machine}
-use Rattle.wram.specs.Banks.{Banks}
-use Rattle.wram.specs.Olds.{noOlds}
+use Rattle.wram.specs.{Banks.Banks, Olds.noOlds}
 use Rattle.wram.specs.declared.Olds.{Olds}
 
 -- an operation with its arguments

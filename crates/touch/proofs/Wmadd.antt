@@ -8,18 +8,14 @@ use borrow.Author.Tests.{eqb-true}
 use lib.Dec.{eqb}
 use lib.ListN.{drop}
 use Rattle.common.specs.Range.{within}
-use Rattle.common.proofs.AllLaws.{_also_}
-use Rattle.common.proofs.TableLaws.{pick-elim, find-elim}
-use Rattle.registers.specs.Groups.{withIo-openbus}
-use Rattle.registers.specs.Read.{afterTable, readIo}
+use Rattle.common.proofs.{AllLaws._also_, TableLaws.pick-elim, TableLaws.find-elim}
+use Rattle.registers.specs.{Groups.withIo-openbus, Read.afterTable, Read.readIo}
 use Rattle.registers.specs.Write.{writeTable, writeCpu, writeIo}
 use Rattle.registers.specs.declared.Io.{Io}
 use Rattle.wram.specs.Banks.{peeked}
-use Rattle.bus.specs.Access.{ioWritten, registerRead}
-use Rattle.bus.specs.Route.{routeOf}
+use Rattle.bus.specs.{Access.ioWritten, Access.registerRead, Route.routeOf}
 use Rattle.bus.specs.World.{World, placeAt, readAt, writeAt}
-use Rattle.bus.specs.declared.access.Access.{Access}
-use Rattle.bus.specs.declared.route.Route.{Route}
+use Rattle.bus.specs.declared.{access.Access.Access, route.Route.Route}
 use Rattle.bus.specs.declared.route.Route.the-variants.{Bank7E, Bank7F, Data, Registers, Cartridge}
 use Rattle.touch.specs.Reach.{spotOf, wmWritten, wmBy, wmAfter, reachOf}
 use Rattle.touch.specs.declared.who.Who.{Who}

@@ -4,21 +4,17 @@ use Prim.Native.Nat.{ℕ, _+_, _/_}
 use mathlib.Core.Bool.{Bool, false, _&&_}
 use mathlib.Core.List.{List, [], _∷_}
 use lib.Dec.{eqb}
-use Rattle.common.specs.Pick.{pick}
+use Rattle.common.specs.{Pick.pick, Word.withLo, Word.withHi}
 use Rattle.common.specs.Table.{Entry, at, find}
-use Rattle.common.specs.Word.{withLo, withHi}
-use Rattle.registers.specs.Groups.{withWmAddress-bank, withWmAddress-addr}
-use Rattle.registers.specs.WmAdd.{bankFrom, stepped}
+use Rattle.registers.specs.{Groups.withWmAddress-bank, Groups.withWmAddress-addr, WmAdd.bankFrom, WmAdd.stepped}
 use Rattle.registers.specs.declared.wm_address.WmAddress.{WmAddress}
 use Rattle.wram.specs.declared.Place.{Place}
 use Rattle.wram.specs.declared.Place.the-variants as place
 use Rattle.bus.specs.Route.{routeOf, placeOf}
-use Rattle.bus.specs.declared.access.Access.{Access}
-use Rattle.bus.specs.declared.route.Route.{Route}
+use Rattle.bus.specs.declared.{access.Access.Access, route.Route.Route}
 use Rattle.bus.specs.declared.route.Route.the-variants.{Bank7E, Bank7F, Data, Registers, Cartridge}
-use Rattle.touch.specs.declared.who.Who.{Who}
+use Rattle.touch.specs.declared.{who.Who.Who, reach.Reach.Reach}
 use Rattle.touch.specs.declared.who.Who.the-variants.{Cpu, Dma as General, Hdma}
-use Rattle.touch.specs.declared.reach.Reach.{Reach}
 
 -- the offset of a byte of work RAM, $7E:0000 first; 131,072 is no byte
 abbrev pub spotOf : Place → ℕ

@@ -5,12 +5,9 @@ use lib.Dec.{eqb}
 use lib.ListN.{getD}
 use Rattle.registers.specs.Channel.{noChannel}
 use Rattle.registers.specs.declared.Io.{Io}
-use Rattle.state.specs.declared.Dma.{Dma}
-use Rattle.state.specs.declared.DmaProgress.{DmaProgress}
-use Rattle.state.specs.declared.DmaProgress.the-variants.{Nothing, At}
-use Rattle.state.specs.declared.DmaState.{DmaState}
+use Rattle.state.specs.declared.{Dma.Dma, DmaProgress.DmaProgress, DmaProgress.the-variants.Nothing, DmaProgress.the-variants.At}
+use Rattle.state.specs.declared.{DmaState.DmaState, Machine.Machine}
 use Rattle.state.specs.declared.DmaState.the-variants as phase
-use Rattle.state.specs.declared.Machine.{Machine}
 use Rattle.transfer.specs.Bits.{lowest}
 use Rattle.touch.specs.declared.who.Who.{Who}
 use Rattle.touch.specs.declared.who.Who.the-variants.{Cpu, Dma as General, Hdma}

@@ -5,14 +5,12 @@ use mathlib.Core.List.{List}
 use native.Mathlib.Omega.{arith}
 use Rattle.common.proofs.TableLaws.{pick-elim}
 use Rattle.bus.proofs.Adds.{Adds, adds-none, adds-trans, adds-more, channel-adds, read-adds, write-adds}
-use Rattle.bus.specs.View.{channelOf, withCore}
-use Rattle.bus.specs.World.{World, readAt}
+use Rattle.bus.specs.{View.channelOf, View.withCore, World.World, World.readAt}
 use Rattle.bus.specs.declared.access.Core.{Core}
 use Rattle.registers.specs.declared.channel.DmaChannel.{DmaChannel}
 use Rattle.transfer.proofs.BitLaws.{unit-len-le}
 use Rattle.transfer.specs.Byte.{moved, stepA1t, tripAt, transferByte}
-use Rattle.transfer.specs.Pattern.{unitLen}
-use Rattle.transfer.specs.Table.{tableRead, dasLoaded}
+use Rattle.transfer.specs.{Pattern.unitLen, Table.tableRead, Table.dasLoaded}
 use Rattle.transfer.specs.Unit.{unitByte, unitBytes, sourceOf, sourceStored, unitSent}
 use Rattle.transfer.specs.declared.byte.Trip.{Trip}
 

@@ -6,8 +6,7 @@ use native.Mathlib.Omega.{arith}
 use lib.Count.{trailingZeros, under}
 use lib.Dec.{eqb}
 use Rattle.common.proofs.TableLaws.{pick-elim}
-use Rattle.transfer.specs.Bits.{lowest}
-use Rattle.transfer.specs.Pattern.{unitLen}
+use Rattle.transfer.specs.{Bits.lowest, Pattern.unitLen}
 
 -- below a digit: less than suc k where the digit is set, or where the rest is below k
 under-lt : (d t k : ℕ) → (d ≡ 0 → t < k) → under d t < suc k

@@ -5,15 +5,13 @@ use mathlib.Core.List.{List}
 use native.Mathlib.Omega.{arith}
 use Rattle.common.proofs.TableLaws.{pick-elim}
 use Rattle.bus.proofs.FitLaws.{read-fits, write-fits, channel-fits, with-channel-fits, FitWorld, FitReading}
-use Rattle.bus.specs.View.{channelOf, withCore}
-use Rattle.bus.specs.World.{World}
+use Rattle.bus.specs.{View.channelOf, View.withCore, World.World}
 use Rattle.bus.specs.declared.access.Core.{Core}
 use Rattle.common.specs.Width.{Word, Bytes}
 use Rattle.registers.specs.declared.channel.DmaChannel.{DmaChannel}
-use Rattle.transfer.specs.Bits.{flagOf}
+use Rattle.transfer.specs.{Bits.flagOf, Table.tableRead, Table.dasLoaded}
 use Rattle.transfer.specs.Byte.{tripOf, moved, nextA1t, stepA1t, tripAt, transferByte}
 use Rattle.transfer.specs.Pattern.{offsetOf, unitLen, bAddress}
-use Rattle.transfer.specs.Table.{tableRead, dasLoaded}
 use Rattle.transfer.specs.Unit.{unitByte, unitBytes, sourceOf, sourceStored, unitSent}
 use Rattle.transfer.specs.declared.byte.Trip.{Trip}
 

@@ -10,10 +10,9 @@ use Rattle.bus.specs.World.{World, Reading, readAt, writeAt}
 use Rattle.bus.specs.declared.access.Core.{Core}
 use Rattle.registers.specs.Groups.{withDmaChannel-a1t, withDmaChannel-a2a, withDmaChannel-das}
 use Rattle.registers.specs.declared.channel.DmaChannel.{DmaChannel}
-use Rattle.transfer.specs.Bits.{up}
+use Rattle.transfer.specs.{Bits.up, Table.tableRead, Table.dasLoaded}
 use Rattle.transfer.specs.Byte.{tripOf, moved, nextA1t, stepA1t, transferByte}
 use Rattle.transfer.specs.Pattern.{offsetOf, unitLen, bAddress}
-use Rattle.transfer.specs.Table.{tableRead, dasLoaded}
 use Rattle.transfer.specs.Unit.{SentUnit, unitByte, unitBytes, sourceOf, sourceStored, unitSent}
 use Rattle.transfer.specs.declared.byte.Trip.{Trip}
 

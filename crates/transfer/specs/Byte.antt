@@ -6,8 +6,7 @@ use Rattle.common.specs.Pick.{pick}
 use Rattle.bus.specs.Access.{noLog, pushAccess}
 use Rattle.bus.specs.View.{channelOf, withChannel, withCore}
 use Rattle.bus.specs.World.{World, readAt, writeAt}
-use Rattle.bus.specs.declared.access.Core.{Core}
-use Rattle.bus.specs.declared.access.Log.{Log}
+use Rattle.bus.specs.declared.{access.Core.Core, access.Log.Log}
 use Rattle.registers.specs.Groups.{withDmaChannel-a1t}
 use Rattle.transfer.specs.Bits.{flagOf, down, up}
 use Rattle.transfer.specs.Pattern.{offsetOf, bAddress}

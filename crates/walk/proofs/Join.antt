@@ -13,10 +13,8 @@ use Rattle.benchfile.specs.declared.row.Row.the-variants.{Cycles, Read, Write, 
 use Rattle.script.specs.Row.{rowRun}
 use Rattle.script.specs.Run.{Running, firstOf, firstFlag}
 use Rattle.walk.specs.Call.{Calling, plainAnswer, cycleCalled, callOf}
-use Rattle.walk.specs.declared.call.Answer.{Answer}
-use Rattle.walk.specs.Stand.{counted, onward}
-use Rattle.walk.specs.Step.{Stepping, stepOf}
-use Rattle.walk.specs.declared.stand.Stand.{Stand}
+use Rattle.walk.specs.declared.{call.Answer.Answer, stand.Stand.Stand}
+use Rattle.walk.specs.{Stand.counted, Stand.onward, Step.Stepping, Step.stepOf}
 
 module _ (rom : List ℕ) (i : ℕ) (d : Desk) where
   pub call-cycle : {says : Row} {count event e : ℕ} {due timer l t : Bool} {o : CycleOut} → says ≡ Cycles count event due timer → e ≡ firstOf i event

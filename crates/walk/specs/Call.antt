@@ -8,8 +8,7 @@ use Rattle.benchfile.specs.declared.row.Row.the-variants.{Cycles, Read, Write, 
 use Rattle.bus.specs.Access.{noLog}
 use Rattle.script.specs.Row.{rowRun}
 use Rattle.script.specs.Run.{Running, firstOf, firstFlag}
-use Rattle.walk.specs.declared.call.Answer.{Answer}
-use Rattle.walk.specs.declared.call.Called.{Called}
+use Rattle.walk.specs.declared.{call.Answer.Answer, call.Called.Called}
 
 -- what a call answers and leaves
 pub record Calling : Type 0 where

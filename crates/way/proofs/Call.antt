@@ -7,8 +7,7 @@ use native.Mathlib.Omega.{arith}
 use borrow.Author.Tests.{eqb-true, not-true}
 use lib.Dec.{eqb, leb, ltb}
 use lib.ListN.{length}
-use Rattle.common.specs.Pick.{pick}
-use Rattle.common.specs.Width.{Bytes}
+use Rattle.common.specs.{Pick.pick, Width.Bytes}
 use Rattle.asbytes.specs.Machine.{headOf, broken, machineOf, benchOf}
 use Rattle.asbytes.specs.Places.{machineSize, slotAt, countAt, lengthAt}
 use Rattle.bench.specs.Calls.{desk, lentOf, cycleCall, cycleDone, cycleRefused}
@@ -19,8 +18,7 @@ use Rattle.decode.proofs.Accepted.{machine-ok}
 use Rattle.layout.specs.Layout.{capacity}
 use Rattle.machine.specs.Cycle.{cycled}
 use Rattle.machine.specs.declared.event.Event.the-variants.{Nothing}
-use Rattle.ranges.specs.Entry.{entryOk}
-use Rattle.ranges.specs.Tests.{all}
+use Rattle.ranges.specs.{Entry.entryOk, Tests.all}
 use Rattle.ranges.proofs.Tests.{Every, every}
 use Rattle.way.specs.Seen.{seen}
 use Rattle.way.specs.Way.{calmTests, waiting, dueTests, tripTests, turnBy, kindOf, lentTests, plainTests, wayOf}

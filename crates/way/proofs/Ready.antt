@@ -9,20 +9,17 @@ use lib.Bits.{bitAnd}
 use lib.Dec.{eqb, ltb}
 use lib.ListN.{length, getD, take}
 use lib.Seq.{length-take-le}
-use Rattle.common.specs.Pick.{pick}
-use Rattle.common.specs.Width.{Byte, Bytes}
+use Rattle.common.specs.{Pick.pick, Width.Byte, Width.Bytes}
 use Rattle.common.proofs.AllLaws.{all-take, byte-fits}
-use Rattle.asbytes.specs.Machine.{headOf}
-use Rattle.asbytes.specs.Places.{machineSize}
+use Rattle.asbytes.specs.{Machine.headOf, Places.machineSize}
 use Rattle.asbytes.proofs.Head.{head-is, same}
 use Rattle.decode.specs.Cases.{stateOf, progressOf}
-use Rattle.decode.specs.Decode.{num, channelAt, channelsAt, ioAt, dmaAt, boardAt, machineAt, oldsAt}
+use Rattle.decode.specs.Decode.{channelAt, channelsAt, ioAt, dmaAt, boardAt, machineAt, oldsAt}
 use Rattle.decode.proofs.Accepted.{olds-ok, only}
 use Rattle.image.specs.Encode.{encode}
 use Rattle.layout.specs.Layout as the
-use Rattle.layout.specs.Layout.{imageSize}
-use Rattle.ranges.specs.Entry.{entryOk}
-use Rattle.ranges.specs.Tests.{all}
+use Rattle.layout.specs.Layout.{num, imageSize}
+use Rattle.ranges.specs.{Entry.entryOk, Tests.all}
 use Rattle.ranges.proofs.Tests.{Every, every}
 use Rattle.registers.specs.Channel.{noChannel}
 use Rattle.registers.specs.declared.channel.DmaChannel.{DmaChannel}
@@ -30,8 +27,7 @@ use Rattle.registers.specs.declared.pads.AutoJoypad.the-variants as auto
 use Rattle.state.specs.declared.DmaProgress.the-variants as progress
 use Rattle.state.specs.declared.DmaState.the-variants as state
 use Rattle.state.specs.declared.Machine.{Machine}
-use Rattle.transfer.specs.Bits.{down}
-use Rattle.transfer.specs.Pattern.{offsetOf, bAddress}
+use Rattle.transfer.specs.{Bits.down, Pattern.offsetOf, Pattern.bAddress}
 use Rattle.wram.specs.Olds.{noOld, noOlds}
 use Rattle.wram.specs.declared.Olds.{Olds}
 use Rattle.way.specs.Seen.{Seen, seen, busyAt, unitAt, dasAt}
@@ -44,8 +40,10 @@ module _ (s : List ℕ) (long : length s ≡ machineSize) where
   x = headOf s
 
   -- a field of the channel in progress
-  of-channel : (f : ℕ → the.Field) → the.place (f (busyAt s)) .start + the.place (f (busyAt s)) .width ≤ imageSize → num s (f (busyAt s)) ≡ num x (f (busyAt x))
-  of-channel f h = same s long (f (busyAt s)) h ∙ ap (λ (n : ℕ). num x (f (n % 8))) (same s long the.channel (omega arith))
+  of-channel : (r : the.Register)
+      → the.place (the.register (busyAt s) r) .start + the.place (the.register (busyAt s) r) .width ≤ imageSize
+      → num s (the.register (busyAt s) r) ≡ num x (the.register (busyAt x) r)
+  of-channel r h = same s long (the.register (busyAt s) r) h ∙ ap (λ (n : ℕ). num x (the.register (n % 8) r)) (same s long the.channel (omega arith))
 
   pub seen-same : seen s ≡ seen x
   seen-same =

@@ -4,10 +4,9 @@ use mathlib.Core.Bool.{Bool, not, _&&_}
 use mathlib.Core.List.{List}
 use lib.Bits.{bitAnd}
 use lib.Dec.{eqb}
-use Rattle.decode.specs.Decode.{num}
 use Rattle.layout.specs.Layout as the
-use Rattle.transfer.specs.Byte.{tripOf}
-use Rattle.transfer.specs.Pattern.{offsetOf, bAddress}
+use Rattle.layout.specs.Layout.{num}
+use Rattle.transfer.specs.{Byte.tripOf, Pattern.offsetOf, Pattern.bAddress}
 use Rattle.transfer.specs.declared.byte.Trip.{Trip}
 
 module _ (s : List ℕ) where
@@ -28,11 +27,11 @@ module _ (s : List ℕ) where
   busyAt = num s the.channel % 8
 
   abbrev pub baseAt : ℕ
-  baseAt = the.place (the.dmap busyAt) .start
+  baseAt = the.place (the.register busyAt the.dmap) .start
 
   -- its DMAP
   abbrev pub dmapAt : ℕ
-  dmapAt = num s (the.dmap busyAt)
+  dmapAt = num s (the.register busyAt the.dmap)
 
   -- the place in its transfer units
   abbrev pub unitAt : ℕ
@@ -40,19 +39,19 @@ module _ (s : List ℕ) where
 
   -- its A1T
   abbrev pub a1tAt : ℕ
-  a1tAt = num s (the.a1t busyAt)
+  a1tAt = num s (the.register busyAt the.a1t)
 
   -- the bank of A1T
   abbrev pub a1bAt : ℕ
-  a1bAt = num s (the.a1b busyAt)
+  a1bAt = num s (the.register busyAt the.a1b)
 
   -- its DAS
   abbrev pub dasAt : ℕ
-  dasAt = num s (the.das busyAt)
+  dasAt = num s (the.register busyAt the.das)
 
   -- the port on the B side
   abbrev pub bsideAt : ℕ
-  bsideAt = bAddress (num s (the.bbad busyAt)) (offsetOf dmapAt unitAt)
+  bsideAt = bAddress (num s (the.register busyAt the.bbad)) (offsetOf dmapAt unitAt)
 
   -- where the byte comes from and goes to
   abbrev pub tripIn : Trip

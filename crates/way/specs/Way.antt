@@ -12,8 +12,7 @@ use Rattle.asbytes.specs.Places.{machineSize, slotAt, countAt, lengthAt}
 use Rattle.bench.specs.Refusal.{banksOff, recordOff, romOff}
 use Rattle.bus.specs.Route.{routeOf, memory}
 use Rattle.layout.specs.Layout.{capacity}
-use Rattle.ranges.specs.Entry.{entryOk}
-use Rattle.ranges.specs.Tests.{all}
+use Rattle.ranges.specs.{Entry.entryOk, Tests.all}
 use Rattle.transfer.specs.Bits.{flagOf, down}
 use Rattle.way.specs.Seen.{Seen, seen}
 

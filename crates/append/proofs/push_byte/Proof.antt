@@ -1,7 +1,6 @@
-use Rattle.append.proofs.Laws.{push-room, push-full}
+use Rattle.append.proofs.{Laws.push-room, Laws.push-full, push_byte.Statement.statement}
 use mathlib.Core.Path.{sym}
 use borrow.Author.Needs.{needs}
-use Rattle.append.proofs.push_byte.Statement.{statement}
 use Rattle.append.proofs.push_byte.Tie as tie
 
 slice-write-out : tie.Need-slice-write-out

@@ -1,7 +1,6 @@
-use Rattle.cartridge.proofs.Answer.{found, silent}
+use Rattle.cartridge.proofs.{Answer.found, Answer.silent, read.Statement.statement}
 use borrow.Author.Tests.{lt-ltb}
 use borrow.Author.Needs.{needs}
-use Rattle.cartridge.proofs.read.Statement.{statement}
 use Rattle.cartridge.proofs.read.Tie as tie
 
 returns : tie.Need-returns

@@ -1,8 +1,7 @@
-use Rattle.wording.proofs.Said.{said, told}
+use Rattle.wording.proofs.{Said.said, Said.told, words.Statement.statement}
 use Rattle.wording.specs.Words.{pageWords, refusals, wordsOf}
 use Rattle.common.proofs.TableLaws.{find-none}
 use borrow.Author.Needs.{needs}
-use Rattle.wording.proofs.words.Statement.{statement}
 use Rattle.wording.proofs.words.Tie as tie
 
 returns : tie.Need-returns

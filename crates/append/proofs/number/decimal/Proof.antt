@@ -1,6 +1,5 @@
-use Rattle.append.proofs.Decimal.{put-digits}
+use Rattle.append.proofs.{Decimal.put-digits, number.decimal.Statement.statement}
 use borrow.Author.Needs.{needs}
-use Rattle.append.proofs.number.decimal.Statement.{statement}
 use Rattle.append.proofs.number.decimal.Tie as tie
 
 returns : tie.Need-returns

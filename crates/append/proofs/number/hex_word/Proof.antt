@@ -1,6 +1,5 @@
-use Rattle.append.proofs.Laws.{then}
+use Rattle.append.proofs.{Laws.then, number.hex_word.Statement.statement}
 use borrow.Author.Needs.{needs}
-use Rattle.append.proofs.number.hex_word.Statement.{statement}
 use Rattle.append.proofs.number.hex_word.Tie as tie
 
 returns : tie.Need-returns

@@ -1,6 +1,5 @@
 use Rattle.append.proofs.Laws.{then, bytes-next, bytes-end}
-use Rattle.append.specs.Sheet.{sheet, puts}
-use Rattle.append.specs.Number.{hexes}
+use Rattle.append.specs.{Sheet.sheet, Sheet.puts, Number.hexes}
 use native.Mathlib.Omega.{arith}
 use lib.ListN.{length, drop}
 use Prim.Native.Nat.{_-_}

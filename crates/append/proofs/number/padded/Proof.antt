@@ -1,6 +1,5 @@
-use Rattle.append.proofs.Decimal.{put-padded}
+use Rattle.append.proofs.{Decimal.put-padded, number.padded.Statement.statement}
 use borrow.Author.Needs.{needs}
-use Rattle.append.proofs.number.padded.Statement.{statement}
 use Rattle.append.proofs.number.padded.Tie as tie
 
 returns : tie.Need-returns

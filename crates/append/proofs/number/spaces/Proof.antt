@@ -1,10 +1,9 @@
-use Rattle.append.proofs.Laws.{again-next, again-end}
+use Rattle.append.proofs.{Laws.again-next, Laws.again-end, number.spaces.Statement.statement}
 use Rattle.append.specs.Sheet.{sheet, puts}
 use native.Mathlib.Omega.{arith}
 use lib.ListN.{length, replicate}
 use Prim.Native.Nat.{_-_}
 use mathlib.Core.Path.{_≡_, refl, sym, _∙_}
-use Rattle.append.proofs.number.spaces.Statement.{statement}
 use Rattle.append.proofs.number.spaces.Tie as tie
 
 abbrev Inv-loop : tie.InvT-loop

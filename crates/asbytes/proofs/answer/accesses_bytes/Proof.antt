@@ -4,9 +4,8 @@ use mathlib.Core.Path.{_≡_, refl}
 use native.Mathlib.Omega.{arith}
 use borrow.Author.Needs.{needs}
 use lib.ListN.{length, getD, replicate}
-use Rattle.fields.proofs.Patch.{Wrote, nothing}
-use Rattle.image.proofs.Rows.{row}
-use Rattle.image.specs.Groups.{rows}
+use Rattle.fields.specs.Table.{times}
+use Rattle.fields.proofs.{Patch.Wrote, Patch.nothing, Rows.row}
 use Rattle.bus.specs.Access.{noAccess}
 use Rattle.bus.specs.declared.access.Access.{Access}
 use Rattle.asbytes.specs.Answer.{encAccess}
@@ -18,7 +17,7 @@ abbrev row-of : List Access → ℕ → List ℕ
 row-of l k = encAccess (getD l k noAccess)
 
 abbrev Inv-loop : tie.InvT-loop
-Inv-loop items b₀ i₀ b i = (i ≤ 11) × (Wrote (replicate 55 0) 0 (rows i (row-of items)) b × (length b ≡ 55))
+Inv-loop items b₀ i₀ b i = (i ≤ 11) × (Wrote (replicate 55 0) 0 (times i (row-of items)) b × (length b ≡ 55))
 
 abbrev μ-loop : tie.MeasureT-loop
 μ-loop items b₀ i₀ b i = 11 - i

@@ -1,6 +1,5 @@
-use Rattle.asbytes.proofs.Join.{answered-by}
+use Rattle.asbytes.proofs.{Join.answered-by, answer.put_answer.Statement.statement}
 use borrow.Author.Needs.{needs}
-use Rattle.asbytes.proofs.answer.put_answer.Statement.{statement}
 use Rattle.asbytes.proofs.answer.put_answer.Tie as tie
 
 returns : tie.Need-returns

@@ -1,6 +1,5 @@
-use Rattle.asbytes.proofs.Join.{bench-by}
+use Rattle.asbytes.proofs.{Join.bench-by, bytes.bench_of.Statement.statement}
 use borrow.Author.Needs.{needs}
-use Rattle.asbytes.proofs.bytes.bench_of.Statement.{statement}
 use Rattle.asbytes.proofs.bytes.bench_of.Tie as tie
 
 returns : tie.Need-returns

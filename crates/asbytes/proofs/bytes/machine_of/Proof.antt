@@ -1,6 +1,5 @@
-use Rattle.asbytes.proofs.Join.{machine-by, broken-by}
+use Rattle.asbytes.proofs.{Join.machine-by, Join.broken-by, bytes.machine_of.Statement.statement}
 use borrow.Author.Needs.{needs}
-use Rattle.asbytes.proofs.bytes.machine_of.Statement.{statement}
 use Rattle.asbytes.proofs.bytes.machine_of.Tie as tie
 
 returns : tie.Need-returns

@@ -1,6 +1,5 @@
-use Rattle.asbytes.proofs.Join.{counted-by}
+use Rattle.asbytes.proofs.{Join.counted-by, bytes.put_counts.Statement.statement}
 use borrow.Author.Needs.{needs}
-use Rattle.asbytes.proofs.bytes.put_counts.Statement.{statement}
 use Rattle.asbytes.proofs.bytes.put_counts.Tie as tie
 
 returns : tie.Need-returns

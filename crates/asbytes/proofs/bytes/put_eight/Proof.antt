@@ -1,6 +1,5 @@
-use Rattle.asbytes.proofs.Join.{put-by}
+use Rattle.asbytes.proofs.{Join.put-by, bytes.put_eight.Statement.statement}
 use borrow.Author.Needs.{needs}
-use Rattle.asbytes.proofs.bytes.put_eight.Statement.{statement}
 use Rattle.asbytes.proofs.bytes.put_eight.Tie as tie
 
 returns : tie.Need-returns

@@ -1,6 +1,5 @@
-use Rattle.asbytes.proofs.Join.{image-by}
+use Rattle.asbytes.proofs.{Join.image-by, bytes.put_machine.Statement.statement}
 use borrow.Author.Needs.{needs}
-use Rattle.asbytes.proofs.bytes.put_machine.Statement.{statement}
 use Rattle.asbytes.proofs.bytes.put_machine.Tie as tie
 
 returns : tie.Need-returns

@@ -1,7 +1,6 @@
 use borrow.Author.Tests.{eq-eqb, ne-eqb}
-use Rattle.asbytes.proofs.Join.{saved-by, left-as}
+use Rattle.asbytes.proofs.{Join.saved-by, Join.left-as, bytes.save.Statement.statement}
 use borrow.Author.Needs.{needs}
-use Rattle.asbytes.proofs.bytes.save.Statement.{statement}
 use Rattle.asbytes.proofs.bytes.save.Tie as tie
 
 returns : tie.Need-returns

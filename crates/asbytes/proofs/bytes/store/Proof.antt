@@ -1,6 +1,5 @@
-use Rattle.asbytes.proofs.Join.{stored-by}
+use Rattle.asbytes.proofs.{Join.stored-by, bytes.store.Statement.statement}
 use borrow.Author.Needs.{needs}
-use Rattle.asbytes.proofs.bytes.store.Statement.{statement}
 use Rattle.asbytes.proofs.bytes.store.Tie as tie
 
 returns : tie.Need-returns

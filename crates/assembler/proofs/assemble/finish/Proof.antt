@@ -1,6 +1,5 @@
-use Rattle.assembler.proofs.Join.{finished-by}
+use Rattle.assembler.proofs.{Join.finished-by, assemble.finish.Statement.statement}
 use borrow.Author.Needs.{needs}
-use Rattle.assembler.proofs.assemble.finish.Statement.{statement}
 use Rattle.assembler.proofs.assemble.finish.Tie as tie
 
 bind-requires : tie.Need-bind-requires

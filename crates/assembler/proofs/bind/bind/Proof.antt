@@ -1,6 +1,5 @@
-use Rattle.assembler.proofs.Join.{bound-by}
+use Rattle.assembler.proofs.{Join.bound-by, bind.bind.Statement.statement}
 use borrow.Author.Needs.{needs}
-use Rattle.assembler.proofs.bind.bind.Statement.{statement}
 use Rattle.assembler.proofs.bind.bind.Tie as tie
 
 returns : tie.Need-returns

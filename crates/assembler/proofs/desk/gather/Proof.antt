@@ -1,6 +1,5 @@
-use Rattle.assembler.proofs.Join.{gathered-by}
+use Rattle.assembler.proofs.{Join.gathered-by, desk.gather.Statement.statement}
 use borrow.Author.Needs.{needs}
-use Rattle.assembler.proofs.desk.gather.Statement.{statement}
 use Rattle.assembler.proofs.desk.gather.Tie as tie
 
 returns : tie.Need-returns

@@ -1,6 +1,5 @@
-use Rattle.assembler.proofs.Join.{stepped-by}
+use Rattle.assembler.proofs.{Join.stepped-by, desk.step.Statement.statement}
 use borrow.Author.Needs.{needs}
-use Rattle.assembler.proofs.desk.step.Statement.{statement}
 use Rattle.assembler.proofs.desk.step.Tie as tie
 
 returns : tie.Need-returns

@@ -1,7 +1,6 @@
-use Rattle.bench.proofs.Join.{back-refused, back-done}
+use Rattle.bench.proofs.{Join.back-refused, Join.back-done, back.back.Statement.statement}
 use borrow.Author.Tests.{eq-eqb, ne-eqb}
 use borrow.Author.Needs.{needs}
-use Rattle.bench.proofs.back.back.Statement.{statement}
 use Rattle.bench.proofs.back.back.Tie as tie
 
 returns : tie.Need-returns

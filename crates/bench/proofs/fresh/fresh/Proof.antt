@@ -1,7 +1,6 @@
-use Rattle.bench.proofs.Join.{fresh-refused, fresh-done}
+use Rattle.bench.proofs.{Join.fresh-refused, Join.fresh-done, fresh.fresh.Statement.statement}
 use borrow.Author.Tests.{eq-eqb, ne-eqb}
 use borrow.Author.Needs.{needs}
-use Rattle.bench.proofs.fresh.fresh.Statement.{statement}
 use Rattle.bench.proofs.fresh.fresh.Tie as tie
 
 returns : tie.Need-returns

@@ -1,7 +1,6 @@
-use Rattle.bench.proofs.Join.{cycle-refused, cycle-done}
+use Rattle.bench.proofs.{Join.cycle-refused, Join.cycle-done, operate.cycle.Statement.statement}
 use borrow.Author.Tests.{eq-eqb, ne-eqb}
 use borrow.Author.Needs.{needs}
-use Rattle.bench.proofs.operate.cycle.Statement.{statement}
 use Rattle.bench.proofs.operate.cycle.Tie as tie
 
 returns : tie.Need-returns

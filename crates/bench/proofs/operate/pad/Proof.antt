@@ -1,6 +1,5 @@
-use Rattle.bench.proofs.Join.{pad-by}
+use Rattle.bench.proofs.{Join.pad-by, operate.pad.Statement.statement}
 use borrow.Author.Needs.{needs}
-use Rattle.bench.proofs.operate.pad.Statement.{statement}
 use Rattle.bench.proofs.operate.pad.Tie as tie
 
 returns : tie.Need-returns

@@ -1,6 +1,5 @@
-use Rattle.bench.proofs.Join.{plug-by}
+use Rattle.bench.proofs.{Join.plug-by, operate.plug.Statement.statement}
 use borrow.Author.Needs.{needs}
-use Rattle.bench.proofs.operate.plug.Statement.{statement}
 use Rattle.bench.proofs.operate.plug.Tie as tie
 
 returns : tie.Need-returns

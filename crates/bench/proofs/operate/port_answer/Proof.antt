@@ -1,6 +1,5 @@
-use Rattle.bench.proofs.Join.{answer-by}
+use Rattle.bench.proofs.{Join.answer-by, operate.port_answer.Statement.statement}
 use borrow.Author.Needs.{needs}
-use Rattle.bench.proofs.operate.port_answer.Statement.{statement}
 use Rattle.bench.proofs.operate.port_answer.Tie as tie
 
 returns : tie.Need-returns

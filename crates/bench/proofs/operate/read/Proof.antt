@@ -1,7 +1,6 @@
-use Rattle.bench.proofs.Join.{read-refused, read-done}
+use Rattle.bench.proofs.{Join.read-refused, Join.read-done, operate.read.Statement.statement}
 use borrow.Author.Tests.{eq-eqb, ne-eqb}
 use borrow.Author.Needs.{needs}
-use Rattle.bench.proofs.operate.read.Statement.{statement}
 use Rattle.bench.proofs.operate.read.Tie as tie
 
 returns : tie.Need-returns

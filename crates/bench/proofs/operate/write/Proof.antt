@@ -1,7 +1,6 @@
-use Rattle.bench.proofs.Join.{write-refused, write-done}
+use Rattle.bench.proofs.{Join.write-refused, Join.write-done, operate.write.Statement.statement}
 use borrow.Author.Tests.{eq-eqb, ne-eqb}
 use borrow.Author.Needs.{needs}
-use Rattle.bench.proofs.operate.write.Statement.{statement}
 use Rattle.bench.proofs.operate.write.Tie as tie
 
 returns : tie.Need-returns

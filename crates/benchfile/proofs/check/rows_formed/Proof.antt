@@ -3,8 +3,7 @@ use mathlib.Core.Bool.{true}
 use mathlib.Core.Path.{_≡_, sym, ap, _∙_}
 use borrow.Author.Needs.{needs}
 use borrow.Author.Tests.{not-true, not-false}
-use Rattle.benchfile.specs.Row.{formedRow}
-use Rattle.benchfile.specs.File.{rowsFormed}
+use Rattle.benchfile.specs.{Row.formedRow, File.rowsFormed}
 use Rattle.benchfile.proofs.Rows.{none, more, ragged, bad, whole}
 use Rattle.benchfile.proofs.check.rows_formed.Statement.{statement}
 use Rattle.benchfile.proofs.check.rows_formed.Tie as tie

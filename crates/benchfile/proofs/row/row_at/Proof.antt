@@ -1,7 +1,6 @@
 use mathlib.Core.Path.{sym}
-use Rattle.benchfile.proofs.Rows.{past}
+use Rattle.benchfile.proofs.{Rows.past, row.row_at.Statement.statement}
 use borrow.Author.Needs.{needs}
-use Rattle.benchfile.proofs.row.row_at.Statement.{statement}
 use Rattle.benchfile.proofs.row.row_at.Tie as tie
 
 returns : tie.Need-returns

@@ -1,6 +1,5 @@
-use Rattle.bus.proofs.Join.{read-by}
+use Rattle.bus.proofs.{Join.read-by, access.read.Statement.statement}
 use borrow.Author.Needs.{needs}
-use Rattle.bus.proofs.access.read.Statement.{statement}
 use Rattle.bus.proofs.access.read.Tie as tie
 
 returns : tie.Need-returns

@@ -1,6 +1,5 @@
-use Rattle.bus.proofs.Join.{write-by}
+use Rattle.bus.proofs.{Join.write-by, access.write.Statement.statement}
 use borrow.Author.Needs.{needs}
-use Rattle.bus.proofs.access.write.Statement.{statement}
 use Rattle.bus.proofs.access.write.Tie as tie
 
 returns : tie.Need-returns

@@ -1,7 +1,6 @@
-use Rattle.dma.proofs.Join.{after-last, after-more}
+use Rattle.dma.proofs.{Join.after-last, Join.after-more, general.after_byte.Statement.statement}
 use borrow.Author.Tests.{eq-eqb, ne-eqb}
 use borrow.Author.Needs.{needs}
-use Rattle.dma.proofs.general.after_byte.Statement.{statement}
 use Rattle.dma.proofs.general.after_byte.Tie as tie
 
 returns : tie.Need-returns

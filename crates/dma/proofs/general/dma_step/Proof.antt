@@ -1,6 +1,5 @@
-use Rattle.dma.proofs.Join.{step-none, step-byte}
+use Rattle.dma.proofs.{Join.step-none, Join.step-byte, general.dma_step.Statement.statement}
 use borrow.Author.Needs.{needs}
-use Rattle.dma.proofs.general.dma_step.Statement.{statement}
 use Rattle.dma.proofs.general.dma_step.Tie as tie
 
 enum-known-progress : tie.Need-enum-known-progress

@@ -2,8 +2,7 @@ use mathlib.Core.Path.{_≡_, refl, sym, ap, _∙_}
 use Prim.Native.Nat.{ℕ, _-_, _*_}
 use lib.ListN.{length}
 use native.Mathlib.Omega.{arith}
-use Rattle.append.specs.Sheet.{sheet, puts}
-use Rattle.append.specs.Texts.{each}
+use Rattle.append.specs.{Sheet.sheet, Sheet.puts, Texts.each}
 use Rattle.fields.specs.Bytes.{partOf}
 use Rattle.dump.specs.Page.{lineText, pageText}
 use Rattle.append.proofs.Laws.{each-next, each-end}

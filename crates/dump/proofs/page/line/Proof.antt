@@ -1,7 +1,6 @@
 use mathlib.Core.Path.{_∙_}
-use Rattle.dump.proofs.Join.{lined}
+use Rattle.dump.proofs.{Join.lined, page.line.Statement.statement}
 use borrow.Author.Needs.{needs}
-use Rattle.dump.proofs.page.line.Statement.{statement}
 use Rattle.dump.proofs.page.line.Tie as tie
 
 same-length : tie.Need-same-length

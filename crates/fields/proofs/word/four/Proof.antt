@@ -1,8 +1,6 @@
 use mathlib.Core.Path.{sym}
-use Rattle.fields.proofs.Number.{past-end}
-use Rattle.fields.proofs.Parts.{four-halves}
+use Rattle.fields.proofs.{Number.past-end, Parts.four-halves, word.four.Statement.statement}
 use borrow.Author.Needs.{needs}
-use Rattle.fields.proofs.word.four.Statement.{statement}
 use Rattle.fields.proofs.word.four.Tie as tie
 
 returns : tie.Need-returns

@@ -1,7 +1,6 @@
 use mathlib.Core.Path.{sym}
-use Rattle.fields.proofs.Number.{past-end}
+use Rattle.fields.proofs.{Number.past-end, word.two.Statement.statement}
 use borrow.Author.Needs.{needs}
-use Rattle.fields.proofs.word.two.Statement.{statement}
 use Rattle.fields.proofs.word.two.Tie as tie
 
 returns : tie.Need-returns

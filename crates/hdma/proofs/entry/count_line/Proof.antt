@@ -1,7 +1,6 @@
-use Rattle.hdma.proofs.Join.{counted-on, counted-off}
+use Rattle.hdma.proofs.{Join.counted-on, Join.counted-off, entry.count_line.Statement.statement}
 use mathlib.Core.Path.{sym, _∙_}
 use borrow.Author.Needs.{needs}
-use Rattle.hdma.proofs.entry.count_line.Statement.{statement}
 use Rattle.hdma.proofs.entry.count_line.Tie as tie
 
 returns : tie.Need-returns

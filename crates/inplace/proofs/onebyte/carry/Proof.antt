@@ -1,6 +1,5 @@
-use Rattle.inplace.proofs.OneByteJoin.{carried-by}
+use Rattle.inplace.proofs.{OneByteJoin.carried-by, onebyte.carry.Statement.statement}
 use borrow.Author.Needs.{needs}
-use Rattle.inplace.proofs.onebyte.carry.Statement.{statement}
 use Rattle.inplace.proofs.onebyte.carry.Tie as tie
 
 returns : tie.Need-returns

@@ -1,7 +1,6 @@
 use mathlib.Core.Path.{refl}
-use Rattle.inplace.proofs.OneByteJoin.{fetch-by}
+use Rattle.inplace.proofs.{OneByteJoin.fetch-by, onebyte.fetch.Statement.statement}
 use borrow.Author.Needs.{needs}
-use Rattle.inplace.proofs.onebyte.fetch.Statement.{statement}
 use Rattle.inplace.proofs.onebyte.fetch.Tie as tie
 
 place-for-requires : tie.Need-place-for-requires

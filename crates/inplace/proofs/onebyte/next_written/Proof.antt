@@ -1,7 +1,6 @@
 use mathlib.Core.Path.{refl}
-use Rattle.inplace.proofs.OneByteJoin.{written-by, unwritten-by}
+use Rattle.inplace.proofs.{OneByteJoin.written-by, OneByteJoin.unwritten-by, onebyte.next_written.Statement.statement}
 use borrow.Author.Needs.{needs}
-use Rattle.inplace.proofs.onebyte.next_written.Statement.{statement}
 use Rattle.inplace.proofs.onebyte.next_written.Tie as tie
 
 returns : tie.Need-returns

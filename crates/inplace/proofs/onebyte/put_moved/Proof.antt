@@ -1,6 +1,5 @@
-use Rattle.inplace.proofs.OneByteJoin.{moved-by}
+use Rattle.inplace.proofs.{OneByteJoin.moved-by, onebyte.put_moved.Statement.statement}
 use borrow.Author.Needs.{needs}
-use Rattle.inplace.proofs.onebyte.put_moved.Statement.{statement}
 use Rattle.inplace.proofs.onebyte.put_moved.Tie as tie
 
 returns : tie.Need-returns

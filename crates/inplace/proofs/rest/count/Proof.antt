@@ -1,6 +1,5 @@
-use Rattle.inplace.proofs.RestJoin.{counting-by}
+use Rattle.inplace.proofs.{RestJoin.counting-by, rest.count.Statement.statement}
 use borrow.Author.Needs.{needs}
-use Rattle.inplace.proofs.rest.count.Statement.{statement}
 use Rattle.inplace.proofs.rest.count.Tie as tie
 
 returns : tie.Need-returns

@@ -1,6 +1,5 @@
-use Rattle.inplace.proofs.RestJoin.{quiet-by}
+use Rattle.inplace.proofs.{RestJoin.quiet-by, rest.put_quiet.Statement.statement}
 use borrow.Author.Needs.{needs}
-use Rattle.inplace.proofs.rest.put_quiet.Statement.{statement}
 use Rattle.inplace.proofs.rest.put_quiet.Tie as tie
 
 returns : tie.Need-returns

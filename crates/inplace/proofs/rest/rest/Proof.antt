@@ -1,6 +1,5 @@
-use Rattle.inplace.proofs.RestJoin.{rested-by}
+use Rattle.inplace.proofs.{RestJoin.rested-by, rest.rest.Statement.statement}
 use borrow.Author.Needs.{needs}
-use Rattle.inplace.proofs.rest.rest.Statement.{statement}
 use Rattle.inplace.proofs.rest.rest.Tie as tie
 
 returns : tie.Need-returns

@@ -1,6 +1,5 @@
-use Rattle.inplace.proofs.RestJoin.{ticking-by}
+use Rattle.inplace.proofs.{RestJoin.ticking-by, rest.tick.Statement.statement}
 use borrow.Author.Needs.{needs}
-use Rattle.inplace.proofs.rest.tick.Statement.{statement}
 use Rattle.inplace.proofs.rest.tick.Tie as tie
 
 returns : tie.Need-returns

@@ -1,8 +1,7 @@
 use mathlib.Core.Path.{sym}
 use Rattle.append.proofs.Laws.{then, last, puts-none}
-use Rattle.lister.proofs.Lines.{line-some, line-none}
+use Rattle.lister.proofs.{Lines.line-some, Lines.line-none, body.line.Statement.statement}
 use borrow.Author.Needs.{needs}
-use Rattle.lister.proofs.body.line.Statement.{statement}
 use Rattle.lister.proofs.body.line.Tie as tie
 
 returns : tie.Need-returns

@@ -1,7 +1,6 @@
 use Rattle.lister.specs.List.{settingsText}
-use Rattle.lister.proofs.Join.{listed}
+use Rattle.lister.proofs.{Join.listed, list.list_file.Statement.statement}
 use borrow.Author.Needs.{needs}
-use Rattle.lister.proofs.list.list_file.Statement.{statement}
 use Rattle.lister.proofs.list.list_file.Tie as tie
 
 returns : tie.Need-returns

@@ -1,6 +1,5 @@
 use Rattle.append.proofs.Laws.{each-start, each-next, each-end}
-use Rattle.lister.specs.Row.{rowText}
-use Rattle.lister.specs.List.{rowsText, scriptText}
+use Rattle.lister.specs.{Row.rowText, List.rowsText, List.scriptText}
 use Rattle.append.specs.Sheet.{sheet, puts}
 use borrow.Author.Needs.{needs}
 use native.Mathlib.Omega.{arith}

@@ -1,6 +1,5 @@
-use Rattle.listing.proofs.Join.{cycle-joined}
+use Rattle.listing.proofs.{Join.cycle-joined, cycle.put_cycle.Statement.statement}
 use borrow.Author.Needs.{needs}
-use Rattle.listing.proofs.cycle.put_cycle.Statement.{statement}
 use Rattle.listing.proofs.cycle.put_cycle.Tie as tie
 
 returns : tie.Need-returns

@@ -1,7 +1,6 @@
-use Rattle.listing.proofs.Join.{back-none, back-joined}
+use Rattle.listing.proofs.{Join.back-none, Join.back-joined, event.put_back.Statement.statement}
 use borrow.Author.Tests.{eq-eqb, ne-eqb}
 use borrow.Author.Needs.{needs}
-use Rattle.listing.proofs.event.put_back.Statement.{statement}
 use Rattle.listing.proofs.event.put_back.Tie as tie
 
 returns : tie.Need-returns

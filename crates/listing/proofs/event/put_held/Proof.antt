@@ -1,7 +1,6 @@
-use Rattle.listing.proofs.Join.{held-none, held-joined}
+use Rattle.listing.proofs.{Join.held-none, Join.held-joined, event.put_held.Statement.statement}
 use borrow.Author.Tests.{eq-eqb, ne-eqb}
 use borrow.Author.Needs.{needs}
-use Rattle.listing.proofs.event.put_held.Statement.{statement}
 use Rattle.listing.proofs.event.put_held.Tie as tie
 
 returns : tie.Need-returns

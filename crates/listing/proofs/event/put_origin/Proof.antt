@@ -1,7 +1,6 @@
-use Rattle.listing.proofs.Join.{origin-first, origin-later}
+use Rattle.listing.proofs.{Join.origin-first, Join.origin-later, event.put_origin.Statement.statement}
 use borrow.Author.Tests.{eq-eqb, ne-eqb}
 use borrow.Author.Needs.{needs}
-use Rattle.listing.proofs.event.put_origin.Statement.{statement}
 use Rattle.listing.proofs.event.put_origin.Tie as tie
 
 returns : tie.Need-returns

@@ -1,7 +1,6 @@
-use Rattle.listing.proofs.Join.{refused-none, refused-joined}
+use Rattle.listing.proofs.{Join.refused-none, Join.refused-joined, event.put_refused.Statement.statement}
 use borrow.Author.Tests.{eq-eqb, ne-eqb}
 use borrow.Author.Needs.{needs}
-use Rattle.listing.proofs.event.put_refused.Statement.{statement}
 use Rattle.listing.proofs.event.put_refused.Tie as tie
 
 returns : tie.Need-returns

@@ -1,6 +1,5 @@
-use Rattle.listing.proofs.Join.{head-joined}
+use Rattle.listing.proofs.{Join.head-joined, line.head.Statement.statement}
 use borrow.Author.Needs.{needs}
-use Rattle.listing.proofs.line.head.Statement.{statement}
 use Rattle.listing.proofs.line.head.Tie as tie
 
 returns : tie.Need-returns

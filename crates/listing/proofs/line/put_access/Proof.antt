@@ -1,7 +1,6 @@
-use Rattle.listing.proofs.Join.{access-none, access-joined}
+use Rattle.listing.proofs.{Join.access-none, Join.access-joined, line.put_access.Statement.statement}
 use borrow.Author.Tests.{not-true, not-false}
 use borrow.Author.Needs.{needs}
-use Rattle.listing.proofs.line.put_access.Statement.{statement}
 use Rattle.listing.proofs.line.put_access.Tie as tie
 
 returns : tie.Need-returns

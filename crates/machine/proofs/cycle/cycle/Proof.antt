@@ -1,6 +1,5 @@
-use Rattle.machine.proofs.Join.{cycle-by}
+use Rattle.machine.proofs.{Join.cycle-by, cycle.cycle.Statement.statement}
 use borrow.Author.Needs.{needs}
-use Rattle.machine.proofs.cycle.cycle.Statement.{statement}
 use Rattle.machine.proofs.cycle.cycle.Tie as tie
 
 returns : tie.Need-returns

@@ -1,7 +1,6 @@
 use borrow.Author.Tests.{eq-eqb, ne-eqb}
-use Rattle.moves.proofs.Join.{cpu-refused, cpu-done}
+use Rattle.moves.proofs.{Join.cpu-refused, Join.cpu-done, lines.put_cpu.Statement.statement}
 use borrow.Author.Needs.{needs}
-use Rattle.moves.proofs.lines.put_cpu.Statement.{statement}
 use Rattle.moves.proofs.lines.put_cpu.Tie as tie
 
 returns : tie.Need-returns

@@ -1,6 +1,5 @@
-use Rattle.moves.proofs.Join.{back-goes, back-ends}
+use Rattle.moves.proofs.{Join.back-goes, Join.back-ends, lines.put_returned.Statement.statement}
 use borrow.Author.Needs.{needs}
-use Rattle.moves.proofs.lines.put_returned.Statement.{statement}
 use Rattle.moves.proofs.lines.put_returned.Tie as tie
 
 returns : tie.Need-returns

@@ -1,6 +1,5 @@
-use Rattle.moves.proofs.Join.{list-joined}
+use Rattle.moves.proofs.{Join.list-joined, steps.list_call.Statement.statement}
 use borrow.Author.Needs.{needs}
-use Rattle.moves.proofs.steps.list_call.Statement.{statement}
 use Rattle.moves.proofs.steps.list_call.Tie as tie
 
 returns : tie.Need-returns

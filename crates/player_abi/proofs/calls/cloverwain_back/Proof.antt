@@ -1,7 +1,6 @@
 use mathlib.Core.Path.{refl}
-use Rattle.player_abi.proofs.Join.{back-by, left-by}
+use Rattle.player_abi.proofs.{Join.back-by, Join.left-by, calls.cloverwain_back.Statement.statement}
 use borrow.Author.Needs.{needs}
-use Rattle.player_abi.proofs.calls.cloverwain_back.Statement.{statement}
 use Rattle.player_abi.proofs.calls.cloverwain_back.Tie as tie
 
 returns : tie.Need-returns

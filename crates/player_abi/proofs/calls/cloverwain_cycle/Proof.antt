@@ -1,9 +1,7 @@
-use Rattle.player_abi.proofs.Join.{cycle-by, left-by}
-use Rattle.inplace.proofs.OneByteLaws.{carry-crossed}
-use Rattle.inplace.proofs.RestLaws.{rest-crossed}
+use Rattle.player_abi.proofs.{Join.cycle-by, Join.left-by, calls.cloverwain_cycle.Statement.statement}
+use Rattle.inplace.proofs.{OneByteLaws.carry-crossed, RestLaws.rest-crossed}
 use Rattle.way.proofs.Ready.{all-bytes}
 use borrow.Author.Needs.{needs}
-use Rattle.player_abi.proofs.calls.cloverwain_cycle.Statement.{statement}
 use Rattle.player_abi.proofs.calls.cloverwain_cycle.Tie as tie
 
 returns : tie.Need-returns

@@ -1,6 +1,5 @@
-use Rattle.player_abi.proofs.Join.{fresh-by}
+use Rattle.player_abi.proofs.{Join.fresh-by, calls.cloverwain_fresh.Statement.statement}
 use borrow.Author.Needs.{needs}
-use Rattle.player_abi.proofs.calls.cloverwain_fresh.Statement.{statement}
 use Rattle.player_abi.proofs.calls.cloverwain_fresh.Tie as tie
 
 returns : tie.Need-returns

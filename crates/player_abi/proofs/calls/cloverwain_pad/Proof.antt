@@ -1,7 +1,6 @@
 use mathlib.Core.Path.{refl}
-use Rattle.player_abi.proofs.Join.{pad-by, left-by}
+use Rattle.player_abi.proofs.{Join.pad-by, Join.left-by, calls.cloverwain_pad.Statement.statement}
 use borrow.Author.Needs.{needs}
-use Rattle.player_abi.proofs.calls.cloverwain_pad.Statement.{statement}
 use Rattle.player_abi.proofs.calls.cloverwain_pad.Tie as tie
 
 returns : tie.Need-returns

@@ -1,6 +1,5 @@
-use Rattle.player_abi.proofs.Join.{page-by}
+use Rattle.player_abi.proofs.{Join.page-by, calls.cloverwain_page.Statement.statement}
 use borrow.Author.Needs.{needs}
-use Rattle.player_abi.proofs.calls.cloverwain_page.Statement.{statement}
 use Rattle.player_abi.proofs.calls.cloverwain_page.Tie as tie
 
 returns : tie.Need-returns

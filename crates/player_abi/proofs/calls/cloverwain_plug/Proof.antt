@@ -1,7 +1,6 @@
 use mathlib.Core.Path.{refl}
-use Rattle.player_abi.proofs.Join.{plug-by, left-by}
+use Rattle.player_abi.proofs.{Join.plug-by, Join.left-by, calls.cloverwain_plug.Statement.statement}
 use borrow.Author.Needs.{needs}
-use Rattle.player_abi.proofs.calls.cloverwain_plug.Statement.{statement}
 use Rattle.player_abi.proofs.calls.cloverwain_plug.Tie as tie
 
 returns : tie.Need-returns

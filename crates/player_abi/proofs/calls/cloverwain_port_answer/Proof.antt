@@ -1,7 +1,6 @@
 use mathlib.Core.Path.{refl}
-use Rattle.player_abi.proofs.Join.{answer-by, left-by}
+use Rattle.player_abi.proofs.{Join.answer-by, Join.left-by, calls.cloverwain_port_answer.Statement.statement}
 use borrow.Author.Needs.{needs}
-use Rattle.player_abi.proofs.calls.cloverwain_port_answer.Statement.{statement}
 use Rattle.player_abi.proofs.calls.cloverwain_port_answer.Tie as tie
 
 returns : tie.Need-returns

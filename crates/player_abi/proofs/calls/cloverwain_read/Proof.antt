@@ -1,6 +1,5 @@
-use Rattle.player_abi.proofs.Join.{read-by, left-by}
+use Rattle.player_abi.proofs.{Join.read-by, Join.left-by, calls.cloverwain_read.Statement.statement}
 use borrow.Author.Needs.{needs}
-use Rattle.player_abi.proofs.calls.cloverwain_read.Statement.{statement}
 use Rattle.player_abi.proofs.calls.cloverwain_read.Tie as tie
 
 returns : tie.Need-returns

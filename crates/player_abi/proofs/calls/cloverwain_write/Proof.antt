@@ -1,6 +1,5 @@
-use Rattle.player_abi.proofs.Join.{write-by, left-by}
+use Rattle.player_abi.proofs.{Join.write-by, Join.left-by, calls.cloverwain_write.Statement.statement}
 use borrow.Author.Needs.{needs}
-use Rattle.player_abi.proofs.calls.cloverwain_write.Statement.{statement}
 use Rattle.player_abi.proofs.calls.cloverwain_write.Tie as tie
 
 returns : tie.Need-returns

@@ -1,6 +1,5 @@
-use Rattle.printout.proofs.Join.{shown-none, shown-line}
+use Rattle.printout.proofs.{Join.shown-none, Join.shown-line, row.put_shown.Statement.statement}
 use borrow.Author.Needs.{needs}
-use Rattle.printout.proofs.row.put_shown.Statement.{statement}
 use Rattle.printout.proofs.row.put_shown.Tie as tie
 
 enum-told : tie.Need-enum-told

@@ -1,5 +1,4 @@
-use Rattle.printout.proofs.Join.{row-joined}
-use Rattle.printout.proofs.row.run_line.Statement.{statement}
+use Rattle.printout.proofs.{Join.row-joined, row.run_line.Statement.statement}
 use Rattle.printout.proofs.row.run_line.Tie as tie
 
 same-length : tie.Need-same-length

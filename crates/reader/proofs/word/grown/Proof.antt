@@ -1,7 +1,6 @@
-use Rattle.reader.proofs.Grow.{product}
+use Rattle.reader.proofs.{Grow.product, word.grown.Statement.statement}
 use native.Mathlib.Omega.{arith}
 use borrow.Author.Tests.{lt-ltb, le-ltb}
-use Rattle.reader.proofs.word.grown.Statement.{statement}
 use Rattle.reader.proofs.word.grown.Tie as tie
 
 mul-result : tie.Need-mul-result

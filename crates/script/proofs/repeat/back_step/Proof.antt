@@ -1,7 +1,6 @@
-use Rattle.script.proofs.Join.{back-stopped, back-goes}
+use Rattle.script.proofs.{Join.back-stopped, Join.back-goes, repeat.back_step.Statement.statement}
 use borrow.Author.Tests.{eq-eqb, ne-eqb}
 use borrow.Author.Needs.{needs}
-use Rattle.script.proofs.repeat.back_step.Statement.{statement}
 use Rattle.script.proofs.repeat.back_step.Tie as tie
 
 returns : tie.Need-returns

@@ -1,7 +1,6 @@
-use Rattle.script.proofs.Join.{cycle-stopped, cycle-goes}
+use Rattle.script.proofs.{Join.cycle-stopped, Join.cycle-goes, repeat.cycle_step.Statement.statement}
 use borrow.Author.Tests.{eq-eqb, ne-eqb}
 use borrow.Author.Needs.{needs}
-use Rattle.script.proofs.repeat.cycle_step.Statement.{statement}
 use Rattle.script.proofs.repeat.cycle_step.Tie as tie
 
 returns : tie.Need-returns

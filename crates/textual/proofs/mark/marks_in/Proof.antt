@@ -3,8 +3,7 @@ use mathlib.Core.Path.{_≡_, refl, sym, _∙_}
 use native.Mathlib.Omega.{arith}
 use lib.ListN.{length, drop}
 use Rattle.textual.specs.Mark.{marksFrom, marksOf}
-use Rattle.textual.proofs.Marks.{marks-next, marks-end}
-use Rattle.textual.proofs.mark.marks_in.Statement.{statement}
+use Rattle.textual.proofs.{Marks.marks-next, Marks.marks-end, mark.marks_in.Statement.statement}
 use Rattle.textual.proofs.mark.marks_in.Tie as tie
 
 abbrev Inv-loop : tie.InvT-loop

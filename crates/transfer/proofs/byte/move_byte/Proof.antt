@@ -1,6 +1,5 @@
-use Rattle.transfer.proofs.Join.{moved-by}
+use Rattle.transfer.proofs.{Join.moved-by, byte.move_byte.Statement.statement}
 use borrow.Author.Needs.{needs}
-use Rattle.transfer.proofs.byte.move_byte.Statement.{statement}
 use Rattle.transfer.proofs.byte.move_byte.Tie as tie
 
 read-requires : tie.Need-read-requires

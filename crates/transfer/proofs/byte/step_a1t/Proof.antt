@@ -1,6 +1,5 @@
-use Rattle.transfer.proofs.Join.{step-by}
+use Rattle.transfer.proofs.{Join.step-by, byte.step_a1t.Statement.statement}
 use borrow.Author.Needs.{needs}
-use Rattle.transfer.proofs.byte.step_a1t.Statement.{statement}
 use Rattle.transfer.proofs.byte.step_a1t.Tie as tie
 
 channel-of-requires : tie.Need-channel-of-requires

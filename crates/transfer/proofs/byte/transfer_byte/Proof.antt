@@ -1,6 +1,5 @@
-use Rattle.transfer.proofs.Join.{transfer-by}
+use Rattle.transfer.proofs.{Join.transfer-by, byte.transfer_byte.Statement.statement}
 use borrow.Author.Needs.{needs}
-use Rattle.transfer.proofs.byte.transfer_byte.Statement.{statement}
 use Rattle.transfer.proofs.byte.transfer_byte.Tie as tie
 
 returns : tie.Need-returns

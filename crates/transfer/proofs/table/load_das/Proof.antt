@@ -1,6 +1,5 @@
-use Rattle.transfer.proofs.Join.{das-by}
+use Rattle.transfer.proofs.{Join.das-by, table.load_das.Statement.statement}
 use borrow.Author.Needs.{needs}
-use Rattle.transfer.proofs.table.load_das.Statement.{statement}
 use Rattle.transfer.proofs.table.load_das.Tie as tie
 
 returns : tie.Need-returns

@@ -1,6 +1,5 @@
-use Rattle.transfer.proofs.Join.{read-by}
+use Rattle.transfer.proofs.{Join.read-by, table.read_table.Statement.statement}
 use borrow.Author.Needs.{needs}
-use Rattle.transfer.proofs.table.read_table.Statement.{statement}
 use Rattle.transfer.proofs.table.read_table.Tie as tie
 
 channel-of-requires : tie.Need-channel-of-requires

@@ -1,6 +1,5 @@
-use Rattle.transfer.proofs.Join.{stored-indirect, stored-direct}
+use Rattle.transfer.proofs.{Join.stored-indirect, Join.stored-direct, unit.store_source.Statement.statement}
 use borrow.Author.Needs.{needs}
-use Rattle.transfer.proofs.unit.store_source.Statement.{statement}
 use Rattle.transfer.proofs.unit.store_source.Tie as tie
 
 channel-of-requires : tie.Need-channel-of-requires

@@ -1,6 +1,5 @@
-use Rattle.transfer.proofs.Join.{sent-by}
+use Rattle.transfer.proofs.{Join.sent-by, unit.transfer_unit.Statement.statement}
 use borrow.Author.Needs.{needs}
-use Rattle.transfer.proofs.unit.transfer_unit.Statement.{statement}
 use Rattle.transfer.proofs.unit.transfer_unit.Tie as tie
 
 returns : tie.Need-returns

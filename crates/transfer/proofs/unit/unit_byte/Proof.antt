@@ -1,6 +1,5 @@
-use Rattle.transfer.proofs.Join.{unit-by}
+use Rattle.transfer.proofs.{Join.unit-by, unit.unit_byte.Statement.statement}
 use borrow.Author.Needs.{needs}
-use Rattle.transfer.proofs.unit.unit_byte.Statement.{statement}
 use Rattle.transfer.proofs.unit.unit_byte.Tie as tie
 
 returns : tie.Need-returns

@@ -1,6 +1,5 @@
-use Rattle.walk.proofs.Join.{step-joined}
+use Rattle.walk.proofs.{Join.step-joined, step.next_call.Statement.statement}
 use borrow.Author.Needs.{needs}
-use Rattle.walk.proofs.step.next_call.Statement.{statement}
 use Rattle.walk.proofs.step.next_call.Tie as tie
 
 returns : tie.Need-returns

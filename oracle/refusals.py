@@ -134,13 +134,14 @@ def image(s):
 
 
 def listed(call, s, newest):
-    """The bytes of a listed call: every byte of both banks is $A5. Behind a back step stands the newest entry."""
+    """The bytes of a listed call: every byte of both banks is $A5, but for the first of $7F, so that an exchange of the banks would show.
+    Behind a back step stands the newest entry."""
     slot = (s["slot"] - 1) % max(s["fresh"] // 256, 1)
     first, word, last = {"cycle": (s["event"], 0, 3), "read": (0x7E, 0x1234, 0), "write": (0x7E, 0x1234, 0), "pad": (s["port"], 0x8000, 0),
                          "plug": (s["port"], 0, 0), "answer": (0, s["addr"], 7), "back": (slot, 0, 0)}[call]
     counts = [s[name] for name in ("slot", "kept", "fresh", "record", "low", "high", "rom")]
     head = image(s) + b"".join(little(n, 4) for n in counts) + bytes([CALLS.index(call) + 1, first]) + little(word, 2)
-    head += bytes([last, 1] + [0xA5] * 16) + little(0xA5000000, 4) * 8
+    head += bytes([last, 1] + [0xA5] * 16) + little(0xA5000000, 4) * 7 + little(0x5A010000, 4)
     return head + (newest if call == "back" else b"")
 
 

@@ -5,8 +5,8 @@ use mathlib.Core.List.{List, _++_}
 use mathlib.Core.Path.{_≡_, refl, sym, ap, _∙_}
 use lib.Dec.{eqb}
 use Rattle.common.specs.Pick.{pick}
-use Rattle.bench.specs.Ring.{bench}
-use Rattle.bench.specs.declared.Bench.{Bench}
+use Rattle.ring.specs.Slots.{bench}
+use Rattle.ring.specs.declared.Bench.{Bench}
 use Rattle.bus.specs.declared.access.Log.{Log}
 use Rattle.decode.specs.Decode.{machineAt}
 use Rattle.fields.specs.{Little.le, Patch.patched}

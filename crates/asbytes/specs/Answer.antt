@@ -3,8 +3,7 @@ use Prim.Native.Nat.{ℕ}
 use mathlib.Core.Bool.{Bool}
 use mathlib.Core.List.{List, _++_}
 use lib.ListN.{getD}
-use Rattle.bus.specs.Access.{noAccess}
-use Rattle.bus.specs.declared.{access.Access.Access, access.Log.Log}
+use Rattle.bus.specs.{Access.noAccess, declared.access.Access.Access, declared.access.Log.Log}
 use Rattle.fields.specs.{Little.le, Patch.patched, Table.times}
 use Rattle.image.specs.Groups.{byte, flag}
 

@@ -5,8 +5,8 @@ use mathlib.Core.List.{List}
 use lib.Dec.{eqb, leb}
 use lib.ListN.{length, take, replicate}
 use Rattle.common.specs.Pick.{pick}
-use Rattle.bench.specs.Ring.{bench}
-use Rattle.bench.specs.declared.Bench.{Bench}
+use Rattle.ring.specs.Slots.{bench}
+use Rattle.ring.specs.declared.Bench.{Bench}
 use Rattle.decode.specs.Decode.{machineAt}
 use Rattle.fields.specs.{Little.le, Patch.patched}
 use Rattle.image.specs.Encode.{encode}

@@ -10,7 +10,6 @@ ghost use Rattle.wram.specs.Olds.{noOlds};
 use crate::KEPT;
 use crate::LENGTH;
 use crate::SLOT;
-use bench::Bench;
 use decode::machine_at;
 use fields::eight_bytes;
 use fields::join8;
@@ -20,6 +19,7 @@ use image::entry_bytes;
 use layout::IMAGE_SIZE;
 use layout::OLD_COUNT;
 use ranges::entry::entry_ok;
+use ring::Bench;
 use state::Machine;
 use wram::no_olds;
 

@@ -3,8 +3,7 @@ use Prim.Native.Nat.{ℕ}
 use mathlib.Core.List.{List, [], _∷_, foldl}
 use Rattle.common.specs.Table.{find, at}
 use Rattle.append.specs.Sheet.{Sheet, sheet, puts}
-use Rattle.reader.specs.declared.{draft.Draft.Draft, reader.Reader.Reader}
-use Rattle.reader.specs.Reader.{startOf, readOf}
+use Rattle.reader.specs.{declared.draft.Draft.Draft, declared.reader.Reader.Reader, Reader.startOf, Reader.readOf}
 use Rattle.assembler.specs.declared.desk.Desk.{Desk}
 
 -- what a completed word or line adds to settings and fill

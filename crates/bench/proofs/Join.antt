@@ -17,9 +17,10 @@ use Rattle.state.specs.declared.Machine.{Machine}
 use Rattle.wram.specs.{Banks.Banks, Olds.putBack}
 use Rattle.bench.specs.Calls.{Desk, lentOf, eventOf, CycleOut, cycleCall, ReadOut, readCall, WriteOut, writeCall, PlainOut, Hosting, hosted, onBanks, padCall, plugCall, answerCall, backCall, emptyBench, freshCall}
 use Rattle.bench.specs.Host.{withIo, padSet, plugSet, answerSet}
-use Rattle.bench.specs.Refusal.{cycleNumber, portNumber, addressNumber, backNumber, freshNumber}
-use Rattle.bench.specs.Ring.{before, bench, Noted, noted}
-use Rattle.bench.specs.declared.{Bench.Bench, operate.Answer.Answer}
+use Rattle.ring.specs.Refusal.{cycleNumber, portNumber, addressNumber, backNumber, freshNumber}
+use Rattle.ring.specs.Slots.{before, bench, Noted, noted}
+use Rattle.bench.specs.declared.operate.Answer.{Answer}
+use Rattle.ring.specs.declared.Bench.{Bench}
 
 module _ (rom : List ℕ) (d : Desk) {lent : ℕ} (p : lent ≡ lentOf d (length rom)) where
   module _ (event : ℕ) (line timer : Bool) {n : ℕ} (q : n ≡ cycleNumber lent (d .bench) event) where

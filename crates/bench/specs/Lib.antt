@@ -1,6 +1,4 @@
--- The public calls: the record's ring, the table of refusals, what the host changes, page look, the calls.
-pub mod Ring
-pub mod Refusal
+-- The public calls: what the host changes, page look, the calls.
 pub mod Host
 pub mod Page
 pub mod Calls

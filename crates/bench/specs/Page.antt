@@ -4,7 +4,7 @@ use mathlib.Core.List.{List, []}
 use lib.Dec.{ltb}
 use lib.ListN.{length, take, drop}
 use Rattle.common.specs.Pick.{pick}
-use Rattle.bench.specs.Refusal.{banksOff}
+use Rattle.ring.specs.Refusal.{banksOff}
 
 unfoldable pub pageCall : List ℕ → List ℕ → ℕ → List ℕ
 pageCall low high p =

@@ -2,14 +2,14 @@
 ghost use mathlib.Core.Path.{_≡_};
 ghost use denote.Ref.{now};
 ghost use Rattle.bench.specs.Calls.{desk, plainOut, backCall};
-use crate::Bench;
 use crate::operate::Answer;
-use crate::refusal::back_number;
-use crate::refusal::lent_number;
-use crate::ring::less_kept;
-use crate::ring::slot_before;
 use entry::read_entry;
 use layout::capacity;
+use ring::Bench;
+use ring::refusal::back_number;
+use ring::refusal::lent_number;
+use ring::slots::less_kept;
+use ring::slots::slot_before;
 use wram::put_back;
 
 pub fn back(b: Bench, low: &mut [u8], high: &mut [u8], entries: &mut [u8]) -> Answer

@@ -1,10 +1,10 @@
 // A machine at power-on with an empty record.
 ghost use mathlib.Core.Path.{_≡_};
 ghost use Rattle.bench.specs.Calls.{emptyBench, freshCall};
-use crate::Bench;
 use crate::operate::Answer;
-use crate::refusal::fresh_number;
 use machine::power_on::power_on_machine;
+use ring::Bench;
+use ring::refusal::fresh_number;
 
 fn empty_bench(length: usize, bitcycles: u16) -> Bench
     ensures { λ r. ⌜ r ≡ emptyBench length bitcycles ⌝ }

@@ -2,21 +2,21 @@
 ghost use mathlib.Core.Path.{_≡_};
 ghost use denote.Ref.{now};
 ghost use Rattle.bench.specs.Calls.{desk, eventOf, machineOf, hosting, hosted, cycleOut, cycleCall, readOut, readCall, writeOut, writeCall, plainOut, padCall, plugCall, answerCall};
-use crate::Bench;
 use crate::host::set_answer;
 use crate::host::set_pad;
 use crate::host::set_plug;
 use crate::host::with_io;
-use crate::refusal::address_number;
-use crate::refusal::cycle_number;
-use crate::refusal::lent_number;
-use crate::refusal::port_number;
-use crate::ring::note;
 use bus::access::Log;
 use bus::access::no_log;
 use bus::access::opened_core;
 use machine::cycle::Turn;
 use machine::event::Event;
+use ring::Bench;
+use ring::refusal::address_number;
+use ring::refusal::cycle_number;
+use ring::refusal::lent_number;
+use ring::refusal::port_number;
+use ring::slots::note;
 use state::Machine;
 
 // `number` is 0 where the call was accepted, else document 01's refusal.

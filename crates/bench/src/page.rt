@@ -3,8 +3,8 @@ ghost use mathlib.Core.Path.{_≡_};
 ghost use denote.Ref.{now};
 ghost use lib.ListN.{length};
 ghost use Rattle.bench.specs.Page.{pageCall};
-ghost use Rattle.bench.specs.Refusal.{lookNumber};
-use crate::refusal::look_number;
+ghost use Rattle.ring.specs.Refusal.{lookNumber};
+use ring::refusal::look_number;
 
 // The number of a look: 0, 1 or 12.
 pub fn page_number(low: &[u8], high: &[u8], page: u16) -> u8

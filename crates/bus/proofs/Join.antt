@@ -5,12 +5,10 @@ use mathlib.Core.List.{List}
 use mathlib.Core.Path.{_≡_}
 use Rattle.registers.specs.declared.{Io.Io, read.IoRead.IoRead}
 use Rattle.wram.specs.Banks.{Banks, peeked, poked}
-use Rattle.wram.specs.Olds.{keptAt}
-use Rattle.wram.specs.declared.{Olds.Olds, Place.Place}
+use Rattle.wram.specs.{Olds.keptAt, declared.Olds.Olds, declared.Place.Place}
 use Rattle.bus.specs.Access.{pushAccess, ioWritten, registerRead}
-use Rattle.bus.specs.Route.{routeOf, placeOf}
+use Rattle.bus.specs.{Route.routeOf, Route.placeOf, declared.access.Log.Log, declared.route.Route.Route}
 use Rattle.bus.specs.World.{World, Reading, core, readAt, writeAt}
-use Rattle.bus.specs.declared.{access.Log.Log, route.Route.Route}
 
 module _ (w : World) (b a : ℕ) {way : Route} {p : Place} (e : way ≡ routeOf b a) (f : p ≡ placeOf (w .core .io .wmadd) way a) where
   pub read-by : (rom : List ℕ) {held : ℕ} {g : IoRead} {log : Log} → held ≡ peeked (w .ram) p → g ≡ registerRead rom (w .core .io) way b a held

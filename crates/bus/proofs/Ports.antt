@@ -10,9 +10,8 @@ use lib.ListN.{set}
 use Rattle.common.specs.{Pick.pick, Range.within, Table.find}
 use Rattle.registers.specs.Groups.{withIo-wmadd, withIo-openbus, withIo-ports, withPorts-written}
 use Rattle.registers.specs.Read.{channelRead, readTable, afterRead}
-use Rattle.registers.specs.WmAdd.{stepped}
+use Rattle.registers.specs.{WmAdd.stepped, declared.Io.Io, declared.wm_address.WmAddress.WmAddress}
 use Rattle.registers.specs.Write.{apuWritten, channelWritten, writeTable, writeIo}
-use Rattle.registers.specs.declared.{Io.Io, wm_address.WmAddress.WmAddress}
 use Rattle.bus.specs.Access.{ioWritten, registerRead}
 use Rattle.bus.specs.Route.{routeOf, systemRoute, placeOf, memory, nextWm}
 use Rattle.bus.specs.declared.route.Route.{Route}

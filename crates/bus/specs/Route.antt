@@ -4,8 +4,7 @@ use mathlib.Core.Bool.{Bool, true, false}
 use lib.Dec.{eqb, ltb}
 use Rattle.common.specs.{Pick.pick, Range.within}
 use Rattle.cartridge.specs.Cartridge.{romCost}
-use Rattle.registers.specs.WmAdd.{stepped}
-use Rattle.registers.specs.declared.{wm_address.WmAddBank.WmAddBank, wm_address.WmAddress.WmAddress}
+use Rattle.registers.specs.{WmAdd.stepped, declared.wm_address.WmAddBank.WmAddBank, declared.wm_address.WmAddress.WmAddress}
 use Rattle.registers.specs.declared.wm_address.WmAddBank.the-variants as wm
 use Rattle.wram.specs.declared.Place.{Place}
 use Rattle.wram.specs.declared.Place.the-variants as at

@@ -1,9 +1,8 @@
 -- What the DMA unit sees of the registers. Each name is shut, so that whoever cites it is blind to the register file.
 use Prim.Native.Nat.{ℕ, _%_}
 use lib.ListN.{getD, set}
-use Rattle.registers.specs.Channel.{noChannel}
+use Rattle.registers.specs.{Channel.noChannel, declared.Io.Io, declared.channel.DmaChannel.DmaChannel}
 use Rattle.registers.specs.Groups.{withIo-channels, withIo-enables, withEnables-mdmaen}
-use Rattle.registers.specs.declared.{Io.Io, channel.DmaChannel.DmaChannel}
 use Rattle.bus.specs.World.{World}
 use Rattle.bus.specs.declared.access.Core.{Core}
 

@@ -4,8 +4,7 @@ use mathlib.Core.Bool.{true, false}
 use mathlib.Core.List.{List}
 use Rattle.registers.specs.declared.{Io.Io, read.IoRead.IoRead}
 use Rattle.wram.specs.Banks.{Banks, banks, peeked, poked}
-use Rattle.wram.specs.Olds.{keptAt}
-use Rattle.wram.specs.declared.{Olds.Olds, Place.Place}
+use Rattle.wram.specs.{Olds.keptAt, declared.Olds.Olds, declared.Place.Place}
 use Rattle.bus.specs.Access.{pushAccess, ioWritten, registerRead}
 use Rattle.bus.specs.Route.{routeOf, placeOf}
 use Rattle.bus.specs.declared.{access.BusRead.BusRead, access.Core.Core, access.Log.Log}

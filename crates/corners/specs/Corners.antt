@@ -16,8 +16,7 @@ use Rattle.registers.specs.Maths.{multiplying, dividing, rddivRead, rdmpyRead}
 use Rattle.registers.specs.{PowerOn.powerOn, Read.readByte, WmAdd.stepped, WmNumber.bit16, Write.writeIo}
 use Rattle.registers.specs.declared.{Io.Io, channel.DmaChannel.DmaChannel, wm_address.WmAddBank.WmAddBank}
 use Rattle.registers.specs.declared.wm_address.WmAddBank.the-variants.{Bank7E, Bank7F}
-use Rattle.state.specs.Hdma.{noHdma}
-use Rattle.state.specs.declared.{HdmaChannelState.HdmaChannelState, Machine.Machine}
+use Rattle.state.specs.{Hdma.noHdma, declared.HdmaChannelState.HdmaChannelState, declared.Machine.Machine}
 use Rattle.transfer.specs.Pattern.{offsetOf, bAddress}
 
 -- what the definitions give, and what document 01 lists

@@ -8,8 +8,7 @@ use Rattle.common.proofs.TableLaws.{pick-elim}
 use Rattle.machine.specs.Event.{pressed, vblankStarted, frameStarted, evented, settled, timed}
 use Rattle.machine.specs.declared.event.Event.{Event}
 use Rattle.machine.specs.declared.event.Event.the-variants.{Nothing, HBlankStart, NormalLine, VBlankStart, FrameStart}
-use Rattle.registers.specs.Write.{irqDisabled}
-use Rattle.registers.specs.declared.{Io.Io, pads.AutoJoypad.AutoJoypad}
+use Rattle.registers.specs.{Write.irqDisabled, declared.Io.Io, declared.pads.AutoJoypad.AutoJoypad}
 use Rattle.registers.specs.declared.pads.AutoJoypad.the-variants.{Idle, Pending, Reading}
 use Rattle.signals.specs.AutoJoypad.{stepFrom, autoStep, autoStart}
 

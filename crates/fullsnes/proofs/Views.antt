@@ -5,8 +5,7 @@ use native.Mathlib.Omega.{arith}
 use lib.ListN.{length, length-set}
 use lib.Seq.{getD-set-same}
 use Rattle.hdma.specs.Engine.{hdmaAt, setHdma}
-use Rattle.state.specs.Hdma.{noHdma}
-use Rattle.state.specs.declared.{Dma.Dma, HdmaChannelState.HdmaChannelState}
+use Rattle.state.specs.{Hdma.noHdma, declared.Dma.Dma, declared.HdmaChannelState.HdmaChannelState}
 
 pub hdma-put : (d : Dma) (ch : ℕ) (h : HdmaChannelState) (wait : ℕ) → length (d .channels) ≡ 8 → hdmaAt (setHdma d ch h wait) ch ≡ h
 unfolding setHdma

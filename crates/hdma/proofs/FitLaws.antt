@@ -11,12 +11,11 @@ use Rattle.bus.proofs.FitLaws.{channel-fits, with-channel-fits, FitWorld}
 use Rattle.common.specs.Width.{Byte, Bytes}
 use Rattle.registers.proofs.Fit.{Long}
 use Rattle.state.proofs.Fit.{FitHdma, FitDma}
-use Rattle.state.specs.declared.{Dma.Dma, HdmaChannelState.HdmaChannelState}
+use Rattle.state.specs.{declared.Dma.Dma, declared.HdmaChannelState.HdmaChannelState, Hdma.noHdma}
 use Rattle.transfer.proofs.Adds.{sent-bytes}
 use Rattle.transfer.proofs.FitLaws.{sent-fits, table-fits, das-fits}
 use Rattle.transfer.specs.{Bits.flagOf, Table.tableRead}
 use Rattle.hdma.specs.Engine.{DmaWorld, hdmaAt, setHdma}
-use Rattle.state.specs.Hdma.{noHdma}
 use Rattle.hdma.specs.Entry.{Reloaded, indirectAt, started, reloaded, counted, rewound, initChannel}
 use Rattle.hdma.specs.Line.{lineChannel}
 

@@ -23,8 +23,7 @@ use Rattle.transfer.specs.{Bits.flagOf, Bits.down, Byte.movedLog, Byte.nextA1t}
 use Rattle.transfer.specs.declared.byte.Trip.{Trip}
 use Rattle.way.specs.Seen.{clockAt, nmiAt, baseAt, unitAt, dmapAt, bsideAt, tripIn}
 use Rattle.wram.specs.Banks.{banks, peeked, poked}
-use Rattle.wram.specs.Olds.{noOlds, keptAt}
-use Rattle.wram.specs.declared.{Olds.Olds, Place.Place}
+use Rattle.wram.specs.{Olds.noOlds, Olds.keptAt, declared.Olds.Olds, declared.Place.Place}
 use Rattle.inplace.specs.OneByte.{wmaddBytes, placeFor, byteBy, byteFrom, wmaddNext, writtenNext, afterRegisters, afterUnit, afterChannel, afterMove, carried}
 use Rattle.inplace.specs.Rest.{at, counting}
 

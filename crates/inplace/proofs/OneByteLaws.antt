@@ -13,7 +13,7 @@ use Rattle.asbytes.specs.{Answer.answered, Crossed.crossed, Crossed.cycleCrosse
 use Rattle.asbytes.specs.Machine.{headOf, benchOf, stored, saved}
 use Rattle.asbytes.specs.Places.{slotAt, countAt, lengthAt}
 use Rattle.bench.specs.Calls.{desk, cycleCall, cycleDone}
-use Rattle.bench.specs.Ring.{noted}
+use Rattle.ring.specs.Slots.{noted}
 use Rattle.bus.specs.{Access.opened, Access.registerRead, View.channelOf, View.withChannel, World.World, World.world}
 use Rattle.bus.specs.Route.{routeOf, memory, nextWm}
 use Rattle.bus.specs.declared.route.Route.{Route}

@@ -7,7 +7,7 @@ use lib.Dec.{eqb, ltb}
 use lib.ListN.{replicate}
 use Rattle.asbytes.specs.{Answer.accessesPlace, Answer.answered, Crossed.crossed, Machine.headOf, Machine.counted}
 use Rattle.asbytes.specs.Places.{slotAt, countAt, lengthAt}
-use Rattle.bench.specs.Ring.{after}
+use Rattle.ring.specs.Slots.{after}
 use Rattle.bus.specs.Access.{noLog}
 use Rattle.entry.specs.Slot.{writeSlot}
 use Rattle.fields.specs.{Little.le, Patch.patched}

@@ -15,7 +15,7 @@ use Rattle.asbytes.specs.Machine.{headOf, benchOf, counted, stored, saved}
 use Rattle.asbytes.specs.Places.{slotAt, countAt, lengthAt}
 use Rattle.asbytes.proofs.Head.{same, put-is, whole}
 use Rattle.bench.specs.Calls.{desk, cycleCall, cycleDone}
-use Rattle.bench.specs.Ring.{after, bench, noted}
+use Rattle.ring.specs.Slots.{after, bench, noted}
 use Rattle.bus.specs.Access.{noLog, opened}
 use Rattle.decode.specs.Decode.{ioAt, dmaAt, boardAt, machineAt}
 use Rattle.entry.specs.{Entry.written, Slot.writeSlot}

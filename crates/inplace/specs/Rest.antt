@@ -6,7 +6,7 @@ use mathlib.Core.List.{List}
 use lib.Dec.{eqb, ltb}
 use Rattle.asbytes.specs.{Answer.answered, Crossed.Crossed, Crossed.crossed, Machine.headOf, Machine.counted}
 use Rattle.asbytes.specs.Places.{slotAt, countAt, lengthAt}
-use Rattle.bench.specs.Ring.{after}
+use Rattle.ring.specs.Slots.{after}
 use Rattle.bus.specs.Access.{noLog}
 use Rattle.entry.specs.Slot.{writeSlot}
 use Rattle.fields.specs.{Little.le, Patch.patched}

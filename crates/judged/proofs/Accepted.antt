@@ -9,8 +9,8 @@ use borrow.Author.Tests.{le-ltb, ne-eqb}
 use lib.ListN.{length}
 use Rattle.bench.specs.Calls.{Desk, lentOf, eventOf, cycleDone, cycleCall, readDone, readCall, costAt, worldOf, bused, writeCall, PlainOut, recorded, padCall, plugCall, answerCall, hosted, restored, backCall}
 use Rattle.bench.specs.Host.{padSet, plugSet, answerSet}
-use Rattle.bench.specs.Refusal.{cycleNumber, portNumber, addressNumber, backNumber}
-use Rattle.bench.specs.Ring.{before}
+use Rattle.ring.specs.Refusal.{cycleNumber, portNumber, addressNumber, backNumber}
+use Rattle.ring.specs.Slots.{before}
 use Rattle.bus.specs.World.{readAt, writeAt}
 use Rattle.entry.specs.Entry.{decodeAt}
 use Rattle.layout.specs.Layout.{capacity}

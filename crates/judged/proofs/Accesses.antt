@@ -6,7 +6,7 @@ use mathlib.Core.Path.{_≡_, refl, ap, _∙_}
 use native.Mathlib.Omega.{arith}
 use lib.ListN.{replicate}
 use Rattle.bench.specs.Calls.{Desk, desk, lentOf, eventOf, CycleOut, cycleOut, cycleCall}
-use Rattle.bench.specs.{Refusal.lentNumber, Ring.bench}
+use Rattle.ring.specs.{Refusal.lentNumber, Slots.bench}
 use Rattle.bench.specs.declared.operate.CycleAnswer.{CycleAnswer}
 use Rattle.bus.specs.Access.{pushAccess, opened, ioWritten, registerRead}
 use Rattle.bus.specs.{Route.systemRoute, Route.routeOf, World.readAt, World.writeAt}

@@ -6,7 +6,8 @@ use mathlib.Core.Logic.{_≢_}
 use mathlib.Core.Path.{_≡_, refl, sym, ap, _∙_}
 use native.Mathlib.Omega.{arith}
 use Rattle.bench.specs.Calls.{Desk, desk, lentOf, PlainOut, plainOut, padCall, backCall}
-use Rattle.bench.specs.{Host.padSet, Refusal.lentNumber, Ring.noted}
+use Rattle.bench.specs.Host.{padSet}
+use Rattle.ring.specs.{Refusal.lentNumber, Slots.noted}
 use Rattle.bench.specs.declared.operate.Answer.{Answer}
 use Rattle.entry.proofs.Entries.{length-written}
 use Rattle.entry.specs.Entry.{decodeAt}

@@ -5,8 +5,10 @@ use mathlib.Core.List.{List}
 use mathlib.Core.Path.{_≡_, _∙⁻¹_}
 use lib.ListN.{length}
 use Rattle.bench.specs.Calls.{desk, cycleOut, cycleCall, readOut, readCall, writeOut, writeCall, plainOut, padCall, plugCall, answerCall, backCall, freshCall}
-use Rattle.bench.specs.{Page.pageCall, Refusal.lookNumber}
-use Rattle.bench.specs.declared.{Bench.Bench, operate.Answer.Answer, operate.CycleAnswer.CycleAnswer, operate.ReadAnswer.ReadAnswer}
+use Rattle.bench.specs.Page.{pageCall}
+use Rattle.ring.specs.Refusal.{lookNumber}
+use Rattle.bench.specs.declared.operate.{Answer.Answer, CycleAnswer.CycleAnswer, ReadAnswer.ReadAnswer}
+use Rattle.ring.specs.declared.Bench.{Bench}
 use Rattle.bench.specs.declared.operate.WriteAnswer.{WriteAnswer}
 use Rattle.benchfile.specs.File.{fileCheck, sectionNumber, sectionOf}
 use Rattle.judged.specs.Outcome.{Outcome, outcome, Coincide, ofCycle, ofRead, ofWrite, ofPlain}

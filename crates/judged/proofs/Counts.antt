@@ -7,8 +7,9 @@ use mathlib.Core.Logic.{_≢_}
 use mathlib.Core.Path.{_≡_, ap, _∙_}
 use lib.ListN.{length}
 use Rattle.bench.specs.Calls.{Desk, lentOf, eventOf, CycleOut, cycleOut, cycleDone, cycleCall, ReadOut, readOut, readCall, WriteOut, writeOut, writeCall, PlainOut, plainOut, padCall, plugCall, answerCall, backCall}
-use Rattle.bench.specs.Ring.{after, before, noted}
-use Rattle.bench.specs.declared.{Bench.Bench, operate.Answer.Answer, operate.CycleAnswer.CycleAnswer, operate.ReadAnswer.ReadAnswer}
+use Rattle.ring.specs.Slots.{after, before, noted}
+use Rattle.bench.specs.declared.operate.{Answer.Answer, CycleAnswer.CycleAnswer, ReadAnswer.ReadAnswer}
+use Rattle.ring.specs.declared.Bench.{Bench}
 use Rattle.bench.specs.declared.operate.WriteAnswer.{WriteAnswer}
 use Rattle.bus.specs.Access.{noAccess}
 use Rattle.bus.specs.declared.access.Log.{Log}

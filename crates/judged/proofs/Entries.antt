@@ -6,8 +6,8 @@ use mathlib.Core.Path.{_≡_, refl, ap, _∙_}
 use native.Mathlib.Omega.{arith}
 use lib.ListN.{length, getD}
 use Rattle.bench.specs.Calls.{Desk, writeOut, writeCall, worldOf, plainOut, padCall}
-use Rattle.bench.specs.{Host.withIo, Host.padSet, Ring.noted}
-use Rattle.bench.specs.declared.{operate.Answer.Answer, operate.WriteAnswer.WriteAnswer}
+use Rattle.bench.specs.{Host.withIo, Host.padSet, declared.operate.Answer.Answer, declared.operate.WriteAnswer.WriteAnswer}
+use Rattle.ring.specs.Slots.{noted}
 use Rattle.bus.specs.{Access.opened, Route.routeOf, Route.placeOf, World.writeAt}
 use Rattle.common.proofs.FillLaws.{filled-grows, filled-none}
 use Rattle.entry.proofs.Entries.{read-written}

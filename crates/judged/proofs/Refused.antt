@@ -7,8 +7,8 @@ use mathlib.Core.Path.{_≡_, refl}
 use lib.Dec.{eqb}
 use lib.ListN.{length}
 use Rattle.bench.specs.Calls.{Desk, lentOf, CycleOut, cycleRefused, cycleCall, ReadOut, readCall, WriteOut, writeCall, PlainOut, Hosting, hosted, onBanks, padCall, plugCall, answerCall, backCall, emptyBench, freshCall}
-use Rattle.bench.specs.Refusal.{cycleNumber, portNumber, addressNumber, backNumber, freshNumber}
-use Rattle.bench.specs.Ring.{before}
+use Rattle.ring.specs.Refusal.{cycleNumber, portNumber, addressNumber, backNumber, freshNumber}
+use Rattle.ring.specs.Slots.{before}
 use Rattle.bench.specs.declared.operate.Answer.{Answer}
 use Rattle.common.proofs.TableLaws.{pick-elim}
 use Rattle.entry.specs.Entry.{decodeAt}

@@ -10,7 +10,7 @@ use lib.ListN.{getD, set}
 use lib.Seq.{getD-set-same}
 use Rattle.bench.specs.Calls.{lentOf, eventOf, CycleOut, cycleOut, cycleDone, cycleCall, costAt, ReadOut, readOut, readDone, readCall, worldOf, bused, WriteOut, writeOut, writeCall, PlainOut, plainOut, padCall, plugCall, answerCall}
 use Rattle.bench.specs.Host.{padSet, plugSet, answerSet}
-use Rattle.bench.specs.Ring.{noted}
+use Rattle.ring.specs.Slots.{noted}
 use Rattle.bench.specs.declared.{operate.Answer.Answer, operate.CycleAnswer.CycleAnswer, operate.ReadAnswer.ReadAnswer}
 use Rattle.bench.specs.declared.operate.WriteAnswer.{WriteAnswer}
 use Rattle.bus.specs.{Access.registerRead, Access.opened, World.readAt, World.writeAt}

@@ -8,7 +8,7 @@ use mathlib.Core.Path.{_≡_, refl, ap, subst⁻¹, _∙_}
 use native.Mathlib.Omega.{arith}
 use lib.ListN.{length}
 use Rattle.bench.specs.Calls.{Desk, eventOf, CycleOut, cycleDone}
-use Rattle.bench.specs.Ring.{noted}
+use Rattle.ring.specs.Slots.{noted}
 use Rattle.judged.proofs.Accepted.{cycle-accepted}
 use Rattle.judged.specs.Tried.{twoSlots, Sizes, start, Run}
 use Rattle.machine.proofs.{FitLaws.power-on-fits, Ranges.power-on-ok}

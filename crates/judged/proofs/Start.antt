@@ -6,7 +6,8 @@ use mathlib.Core.Path.{_≡_}
 use native.Mathlib.Omega.{arith}
 use borrow.Author.Tests.{le-ltb}
 use lib.ListN.{length, replicate, length-replicate}
-use Rattle.bench.specs.{Calls.lentOf, Refusal.lentNumber}
+use Rattle.bench.specs.Calls.{lentOf}
+use Rattle.ring.specs.Refusal.{lentNumber}
 use Rattle.judged.specs.Tried.{Sizes, start}
 use Rattle.machine.proofs.{FitLaws.power-on-fits, Ranges.power-on-ok}
 use Rattle.machine.specs.PowerOn.{powerOnMachine}

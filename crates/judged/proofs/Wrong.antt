@@ -9,8 +9,9 @@ use lib.ListN.{length, getD}
 use lib.Seq.{length-take-le}
 use Rattle.bench.specs.Calls.{desk, lentOf, CycleOut, cycleOut, cycleCall, ReadOut, readOut, readCall, WriteOut, writeOut, writeCall, PlainOut, plainOut, hosted, padCall, plugCall, answerCall, backCall, freshCall}
 use Rattle.bench.specs.Host.{padSet, plugSet, answerSet}
-use Rattle.bench.specs.{Page.pageCall, Ring.noted}
-use Rattle.bench.specs.Refusal.{cycleNumber, portNumber, addressNumber, backNumber, freshNumber, lookNumber}
+use Rattle.bench.specs.Page.{pageCall}
+use Rattle.ring.specs.Slots.{noted}
+use Rattle.ring.specs.Refusal.{cycleNumber, portNumber, addressNumber, backNumber, freshNumber, lookNumber}
 use Rattle.bench.specs.declared.{operate.Answer.Answer, operate.CycleAnswer.CycleAnswer, operate.ReadAnswer.ReadAnswer}
 use Rattle.bench.specs.declared.operate.WriteAnswer.{WriteAnswer}
 use Rattle.bus.specs.{Access.opened, Route.costOf, Route.routeOf, View.mdmaenOf, View.hdmaenOf}

@@ -1,5 +1,4 @@
 // The 304 bytes of a listed call: a machine's image, the numbers beside it, lengths lent, the call, the fill and patches.
-use bench::Bench;
 use benchfile::row::Row;
 use decode::machine_at;
 use fields::part::part;
@@ -8,6 +7,7 @@ use fields::word::byte;
 use fields::word::four;
 use fields::word::two;
 use layout::IMAGE_SIZE;
+use ring::Bench;
 
 // How many bytes a listed call has.
 pub const HEAD: usize = 304;

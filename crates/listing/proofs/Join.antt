@@ -8,8 +8,7 @@ use Rattle.append.specs.{Number.decimal, Number.padded, Sheet.Sheet, Sheet.puts
 use Rattle.append.proofs.Laws.{then, puts-none}
 use Rattle.bus.specs.declared.{access.Access.Access, access.Log.Log}
 use Rattle.state.specs.declared.Machine.{Machine}
-use Rattle.touch.specs.Who.{whoOf, startsAtZero}
-use Rattle.touch.specs.declared.{reach.Reach.Reach, who.Who.Who}
+use Rattle.touch.specs.{Who.whoOf, Who.startsAtZero, declared.reach.Reach.Reach, declared.who.Who.Who}
 use Rattle.wording.specs.Words.{wordsOf}
 use Rattle.listing.specs.Line.{headText, whoText, verbText, addressText, spotText, ownText, zeroText, shows, accessText}
 use Rattle.listing.specs.Cycle.{logText, edgeText, cycleText}

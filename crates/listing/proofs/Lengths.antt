@@ -8,8 +8,7 @@ use lib.ListN.{length, getD, length-append}
 use Rattle.common.proofs.{AllLaws._also_, TableLaws.pick-elim, TableLaws.find-elim}
 use Rattle.append.specs.Number.{decimal}
 use Rattle.append.proofs.Decimal.{most, most-padded}
-use Rattle.bus.specs.Access.{noAccess}
-use Rattle.bus.specs.declared.{access.Access.Access, access.Log.Log}
+use Rattle.bus.specs.{Access.noAccess, declared.access.Access.Access, declared.access.Log.Log}
 use Rattle.registers.specs.declared.wm_address.WmAddress.{WmAddress}
 use Rattle.state.specs.declared.Machine.{Machine}
 use Rattle.touch.specs.{Reach.reachOf, Who.whoOf, Who.startsAtZero}

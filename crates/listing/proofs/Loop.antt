@@ -8,11 +8,9 @@ use native.Mathlib.Omega.{arith}
 use lib.ListN.{getD}
 use Rattle.append.specs.Sheet.{Sheet, puts}
 use Rattle.append.proofs.Laws.{first, puts-none}
-use Rattle.bus.specs.Access.{noAccess}
-use Rattle.bus.specs.declared.{access.Access.Access, access.Log.Log}
+use Rattle.bus.specs.{Access.noAccess, declared.access.Access.Access, declared.access.Log.Log}
 use Rattle.registers.specs.declared.wm_address.WmAddress.{WmAddress}
-use Rattle.touch.specs.Reach.{reachOf}
-use Rattle.touch.specs.declared.{reach.Reach.Reach, who.Who.Who}
+use Rattle.touch.specs.{Reach.reachOf, declared.reach.Reach.Reach, declared.who.Who.Who}
 use Rattle.listing.specs.{Line.accessText, Cycle.accessesFrom, Cycle.logText}
 use Rattle.listing.specs.declared.line.Line.{Line}
 

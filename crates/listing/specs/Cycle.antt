@@ -6,8 +6,7 @@ use lib.Dec.{eqb}
 use lib.ListN.{getD}
 use Rattle.common.specs.Pick.{pick}
 use Rattle.append.specs.Texts.{codes}
-use Rattle.bus.specs.Access.{noAccess}
-use Rattle.bus.specs.declared.{access.Access.Access, access.Log.Log}
+use Rattle.bus.specs.{Access.noAccess, declared.access.Access.Access, declared.access.Log.Log}
 use Rattle.registers.specs.declared.wm_address.WmAddress.{WmAddress}
 use Rattle.state.specs.declared.Machine.{Machine}
 use Rattle.touch.specs.{Reach.reachOf, Who.whoOf, Who.startsAtZero}

@@ -16,10 +16,8 @@ use Rattle.bus.specs.declared.access.Access.{Access}
 use Rattle.listing.specs.{Cycle.cycleText, Line.accessText}
 use Rattle.listing.specs.Event.{backText, refusedText, endText}
 use Rattle.state.specs.declared.Machine.{Machine}
-use Rattle.touch.specs.Reach.{reachOf}
-use Rattle.touch.specs.declared.{reach.Reach.Reach, who.Who.the-variants.Cpu}
-use Rattle.walk.specs.Step.{Stepping, stepOf}
-use Rattle.walk.specs.declared.{call.Answer.Answer, stand.Stand.Stand}
+use Rattle.touch.specs.{Reach.reachOf, declared.reach.Reach.Reach, declared.who.Who.the-variants.Cpu}
+use Rattle.walk.specs.{Step.Stepping, Step.stepOf, declared.call.Answer.Answer, declared.stand.Stand.Stand}
 use Rattle.moves.specs.Origin.{originOf, noted}
 use Rattle.moves.specs.Steps.{Running, listed, stepped}
 use Rattle.moves.specs.Text.{access, cpuText, returnedText, stepText}

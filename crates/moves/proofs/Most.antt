@@ -17,8 +17,7 @@ use Rattle.listing.specs.Event.{refusedText}
 use Rattle.state.specs.declared.Machine.{Machine}
 use Rattle.touch.specs.Reach.{reachOf}
 use Rattle.touch.specs.declared.who.Who.the-variants.{Cpu}
-use Rattle.walk.specs.Step.{stepOf}
-use Rattle.walk.specs.declared.{call.Answer.Answer, stand.Stand.Stand}
+use Rattle.walk.specs.{Step.stepOf, declared.call.Answer.Answer, declared.stand.Stand.Stand}
 use Rattle.moves.specs.Steps.{Running, originsBy, linesBy, listed}
 use Rattle.moves.specs.Text.{cpuText, returnedText, stepText}
 use Rattle.listing.proofs.Lengths.{Within, access-most, cycle-most, end-most, back-most, refused-most}

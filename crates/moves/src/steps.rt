@@ -7,7 +7,7 @@ use crate::origin::note;
 use crate::origin::origin_at;
 use crate::origin::origin_of;
 use append::has_room;
-use bench::Bench;
+use ring::Bench;
 use walk::stand::Stand;
 use walk::step::next_call;
 

@@ -8,8 +8,10 @@ use Rattle.asbytes.specs.Crossed.{Crossed, crossed, cycleCrossed}
 use Rattle.asbytes.specs.Machine.{benchOf, stored}
 use Rattle.asbytes.proofs.Join.{put-by}
 use Rattle.bench.specs.Calls.{desk, CycleOut, cycleCall, ReadOut, readCall, WriteOut, writeCall, PlainOut, padCall, plugCall, answerCall, backCall, freshCall}
-use Rattle.bench.specs.{Page.pageCall, Refusal.lookNumber}
-use Rattle.bench.specs.declared.{Bench.Bench, operate.Answer.Answer}
+use Rattle.bench.specs.Page.{pageCall}
+use Rattle.ring.specs.Refusal.{lookNumber}
+use Rattle.bench.specs.declared.operate.Answer.{Answer}
+use Rattle.ring.specs.declared.Bench.{Bench}
 use Rattle.fields.specs.Patch.{patched}
 use Rattle.player_abi.specs.Calls.{readCrossed, writeCrossed, plainCrossed, freshCrossed}
 

@@ -7,7 +7,7 @@ ghost use Rattle.asbytes.specs.Crossed.{crossed, cycleCrossed};
 ghost use Rattle.asbytes.specs.Machine.{benchOf};
 ghost use Rattle.bench.specs.Calls.{desk, freshCall, cycleCall, readCall, writeCall, padCall, plugCall, answerCall, backCall};
 ghost use Rattle.bench.specs.Page.{pageCall};
-ghost use Rattle.bench.specs.Refusal.{lookNumber};
+ghost use Rattle.ring.specs.Refusal.{lookNumber};
 ghost use Rattle.benchfile.specs.File.{fileCheck};
 ghost use Rattle.fields.specs.Patch.{patched};
 ghost use Rattle.player_abi.specs.Calls.{readCrossed, writeCrossed, plainCrossed, freshCrossed};

@@ -9,7 +9,7 @@ use lib.Dec.{leb, eqb}
 use lib.ListN.{length}
 use borrow.Author.Tests.{leb-true, leb-false, le-leb, lt-leb, eq-eqb, ne-eqb}
 use Rattle.common.specs.Pick.{pick}
-use Rattle.bench.specs.declared.Bench.{Bench}
+use Rattle.ring.specs.declared.Bench.{Bench}
 use Rattle.bench.specs.Calls.{desk}
 use Rattle.benchfile.specs.{File.bodyOf, Row.rowBytes, Row.rowOf}
 use Rattle.script.specs.{Run.Running, Row.rowRun}

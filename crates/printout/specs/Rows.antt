@@ -4,12 +4,11 @@ use mathlib.Core.List.{List}
 use lib.Dec.{leb, eqb}
 use lib.ListN.{length}
 use Rattle.common.specs.Pick.{pick}
-use Rattle.bench.specs.declared.Bench.{Bench}
+use Rattle.ring.specs.declared.Bench.{Bench}
 use Rattle.bench.specs.Calls.{Desk, desk}
 use Rattle.benchfile.specs.Row.{rowBytes}
 use Rattle.append.specs.Sheet.{Sheet, sheet}
-use Rattle.printout.specs.Row.{Shown, rowShown}
-use Rattle.printout.specs.declared.{row.Show.Show, rows.Stand.Stand}
+use Rattle.printout.specs.{Row.Shown, Row.rowShown, declared.row.Show.Show, declared.rows.Stand.Stand}
 
 -- where a script stands: what is lent, the row to run next, the refusal of the last one or 0, the buffer
 pub record Standing : Type 0 where

@@ -2,9 +2,9 @@
 use crate::line::append_line;
 use crate::row::Show;
 use crate::rows::run_rows;
-use bench::Bench;
 use fields::part::part;
 use libc::STDOUT_FILENO;
+use ring::Bench;
 use start::begin;
 
 // The first bytes of a buffer.

@@ -7,8 +7,8 @@ ghost use Rattle.printout.specs.Rows.{standing, start, stepped, steps};
 use crate::row::Show;
 use crate::row::run_line;
 use append::has_room;
-use bench::Bench;
 use fields::part::part;
+use ring::Bench;
 
 // Where a script stands: the row to run next, from 0; the refusal of the last one, or 0; how many bytes of the buffer are text.
 pub struct Stand {

@@ -8,8 +8,7 @@ use lib.Bits.{bitOr}
 use lib.Dec.{eqb, leb}
 use Rattle.common.specs.Pick.{pick}
 use Rattle.common.specs.Table.{Entry, find, at}
-use Rattle.reader.specs.Letter.{base36}
-use Rattle.reader.specs.declared.{draft.Draft.Draft, draft.Opening.Opening}
+use Rattle.reader.specs.{Letter.base36, declared.draft.Draft.Draft, declared.draft.Opening.Opening}
 
 -- by its fields
 abbrev pub draft : ℕ → ℕ → ℕ → ℕ → ℕ → ℕ → ℕ → ℕ → Draft

@@ -9,8 +9,8 @@ use lib.Dec.{eqb, ltb}
 use lib.ListN.{length}
 use Rattle.bench.specs.Calls.{Desk, lentOf, recorded, eventOf, CycleOut, cycleDone, cycleRefused, cycleCall, worldOf, costAt, bused, ReadOut, readDone, readCall, WriteOut, writeCall, Hosting, hosted, onBanks, padCall, plugCall, answerCall, restored, backCall}
 use Rattle.bench.specs.Host.{padSet, plugSet, answerSet}
-use Rattle.bench.specs.Refusal.{addressOff, lentNumber, cycleNumber, portNumber, addressNumber, backNumber}
-use Rattle.bench.specs.Ring.{before, noting, noted}
+use Rattle.ring.specs.Refusal.{addressOff, lentNumber, cycleNumber, portNumber, addressNumber, backNumber}
+use Rattle.ring.specs.Slots.{before, noting, noted}
 use Rattle.bus.specs.World.{readAt, writeAt}
 use Rattle.common.proofs.TableLaws.{pick-elim, pick-case, pick-map}
 use Rattle.common.specs.{Pick.pick, Width.Bytes}

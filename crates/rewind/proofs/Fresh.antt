@@ -7,7 +7,7 @@ use native.Mathlib.Omega.{arith}
 use borrow.Author.Tests.{eqb-true, eqb-false, ltb-false, not-false}
 use lib.Dec.{eqb, ltb}
 use Rattle.bench.specs.Calls.{emptyBench, freshCall}
-use Rattle.bench.specs.Refusal.{lengthOff, bitsOff, freshNumber}
+use Rattle.ring.specs.Refusal.{lengthOff, bitsOff, freshNumber}
 use Rattle.bench.specs.declared.operate.Answer.{Answer}
 use Rattle.common.proofs.TableLaws.{pick-case}
 use Rattle.common.specs.Pick.{pick}

@@ -10,7 +10,7 @@ use borrow.Author.Tests.{eq-eqb, ne-eqb}
 use lib.Dec.{eqb}
 use lib.ListN.{length, take}
 use Rattle.bench.specs.Calls.{Desk, lentOf, recorded, restored}
-use Rattle.bench.specs.Ring.{after, before, noted}
+use Rattle.ring.specs.Slots.{after, before, noted}
 use Rattle.common.specs.{All.AllOf, Pick.pick, Width.Bytes}
 use Rattle.entry.proofs.Entries.{read-written, other-slots}
 use Rattle.entry.specs.Entry.{decode, decodeAt}

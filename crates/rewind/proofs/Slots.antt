@@ -5,7 +5,7 @@ use mathlib.Core.Path.{_≡_}
 use native.Mathlib.Decide.{decLt}
 use native.Mathlib.Omega.{arith}
 use borrow.Author.Tests.{lt-ltb, le-ltb, ne-eqb}
-use Rattle.bench.specs.Ring.{after, before}
+use Rattle.ring.specs.Slots.{after, before}
 
 module _ (cap : ℕ) where
   after-step : (i : ℕ) → i + 1 < cap → after cap i ≡ i + 1

@@ -4,7 +4,7 @@ use Prim.Native.Nat.{ℕ}
 use mathlib.Core.List.{List, [], _∷_}
 use lib.Dec.{eqb}
 use Rattle.common.specs.Pick.{pick}
-use Rattle.bench.specs.Ring.{after, before}
+use Rattle.ring.specs.Slots.{after, before}
 
 -- what one call did: an operation was accepted, a back step was accepted, or the call was refused
 pub data Deed (Op : Type 0) : Type 0 where

@@ -3,9 +3,9 @@ ghost use mathlib.Core.Path.{_≡_};
 ghost use denote.Ref.{now};
 ghost use Rattle.bench.specs.Calls.{desk};
 ghost use Rattle.script.specs.Run.{ran, firstOf, firstFlag, plusOne, cycleStep, cyclesRun, backStep, backsRun};
-use bench::Bench;
 use bench::back::back;
 use bench::operate::cycle;
+use ring::Bench;
 
 // What a row has come to: the refusal or 0, and its two numbers A and B.
 pub struct Ran {

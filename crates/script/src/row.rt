@@ -7,13 +7,13 @@ ghost use Rattle.script.specs.Row.{rowRun};
 use crate::repeat::Ran;
 use crate::repeat::run_backs;
 use crate::repeat::run_cycles;
-use bench::Bench;
 use bench::operate::pad;
 use bench::operate::plug;
 use bench::operate::port_answer;
 use bench::operate::read;
 use bench::operate::write;
 use benchfile::row::Row;
+use ring::Bench;
 
 // A row that breaks its form is refused by 11; in a file that passed its check there is none.
 pub fn run_row(

@@ -4,13 +4,13 @@ use mathlib.Core.Bool.{true, false}
 use mathlib.Core.List.{List}
 use mathlib.Core.Path.{_≡_}
 use lib.Dec.{eqb}
-use Rattle.bench.specs.{Calls.freshCall, Refusal.alsoOf}
+use Rattle.bench.specs.Calls.{freshCall}
+use Rattle.ring.specs.Refusal.{alsoOf}
 use Rattle.bench.specs.declared.operate.Answer.{Answer}
 use Rattle.fields.specs.Little.{field}
 use Rattle.benchfile.specs.File.{bodyOf, fileCheck}
-use Rattle.start.specs.Fill.{filled}
+use Rattle.start.specs.{Fill.filled, declared.Span.Span, declared.Started.Started}
 use Rattle.start.specs.Start.{Starting, started, spanOf, halted, madeFor, refusalOf, startRun}
-use Rattle.start.specs.declared.{Span.Span, Started.Started}
 
 module _ (f low high : List ℕ) {settings : List ℕ} {bits broken : ℕ} {made : Answer} (p : settings ≡ bodyOf f 0) (q : bits ≡ field 2 settings 0)
     (m : made ≡ freshCall 65536 bits) (r : broken ≡ fileCheck f) where

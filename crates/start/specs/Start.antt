@@ -4,12 +4,13 @@ use Prim.Native.Nat.{ℕ}
 use mathlib.Core.List.{List}
 use lib.Dec.{eqb}
 use Rattle.common.specs.Pick.{pick}
-use Rattle.bench.specs.declared.{Bench.Bench, operate.Answer.Answer}
-use Rattle.bench.specs.{Calls.freshCall, Refusal.alsoOf}
+use Rattle.bench.specs.declared.operate.Answer.{Answer}
+use Rattle.ring.specs.declared.Bench.{Bench}
+use Rattle.bench.specs.Calls.{freshCall}
+use Rattle.ring.specs.Refusal.{alsoOf}
 use Rattle.fields.specs.Little.{field}
 use Rattle.benchfile.specs.File.{startOf, sizeOf, bodyOf, fileCheck}
-use Rattle.start.specs.Fill.{filled}
-use Rattle.start.specs.declared.{Span.Span, Started.Started}
+use Rattle.start.specs.{Fill.filled, declared.Span.Span, declared.Started.Started}
 
 -- where a section is in its file: its row of the contents
 abbrev pub spanOf : List ℕ → ℕ → Span

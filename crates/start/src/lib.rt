@@ -4,7 +4,6 @@ pub mod fill;
 ghost use mathlib.Core.Path.{_≡_};
 ghost use denote.Ref.{now};
 ghost use Rattle.start.specs.Start.{spanOf, halted, started, startRun};
-use bench::Bench;
 use bench::fresh::fresh;
 use benchfile::check::file_check;
 use benchfile::contents::body;
@@ -12,6 +11,7 @@ use benchfile::contents::size;
 use benchfile::contents::start;
 use fields::word::two;
 use fill::fill_bank;
+use ring::Bench;
 
 // A part of the file: where it starts, and its length.
 pub struct Span {

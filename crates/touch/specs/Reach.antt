@@ -10,8 +10,7 @@ use Rattle.registers.specs.{Groups.withWmAddress-bank, Groups.withWmAddress-add
 use Rattle.registers.specs.declared.wm_address.WmAddress.{WmAddress}
 use Rattle.wram.specs.declared.Place.{Place}
 use Rattle.wram.specs.declared.Place.the-variants as place
-use Rattle.bus.specs.Route.{routeOf, placeOf}
-use Rattle.bus.specs.declared.{access.Access.Access, route.Route.Route}
+use Rattle.bus.specs.{Route.routeOf, Route.placeOf, declared.access.Access.Access, declared.route.Route.Route}
 use Rattle.bus.specs.declared.route.Route.the-variants.{Bank7E, Bank7F, Data, Registers, Cartridge}
 use Rattle.touch.specs.declared.{who.Who.Who, reach.Reach.Reach}
 use Rattle.touch.specs.declared.who.Who.the-variants.{Cpu, Dma as General, Hdma}

@@ -11,8 +11,7 @@ use Rattle.bus.proofs.Ports.{read-memory, write-memory, place-memory, movedIo, 
 use Rattle.bus.specs.Access.{opened, ioWritten, registerRead}
 use Rattle.bus.specs.Route.{routeOf, placeOf, memory, nextWm}
 use Rattle.bus.specs.World.{World, world, core, readAt, writeAt}
-use Rattle.registers.specs.Groups.{withIo-wmadd, withIo-openbus}
-use Rattle.registers.specs.declared.{Io.Io, read.IoRead.IoRead}
+use Rattle.registers.specs.{Groups.withIo-wmadd, Groups.withIo-openbus, declared.Io.Io, declared.read.IoRead.IoRead}
 use Rattle.wram.specs.Banks.{Banks, banks, peeked, poked}
 use Rattle.wram.specs.Olds.{noOlds, keptAt}
 use Rattle.wram.specs.declared.Place.{Place}

@@ -3,10 +3,9 @@ use Prim.Native.Nat.{ℕ}
 use mathlib.Core.Bool.{true, false}
 use mathlib.Core.List.{List}
 use Rattle.common.specs.Pick.{pick}
-use Rattle.bus.specs.Access.{noLog, pushAccess}
+use Rattle.bus.specs.{Access.noLog, Access.pushAccess, declared.access.Core.Core, declared.access.Log.Log}
 use Rattle.bus.specs.View.{channelOf, withChannel, withCore}
 use Rattle.bus.specs.World.{World, readAt, writeAt}
-use Rattle.bus.specs.declared.{access.Core.Core, access.Log.Log}
 use Rattle.registers.specs.Groups.{withDmaChannel-a1t}
 use Rattle.transfer.specs.Bits.{flagOf, down, up}
 use Rattle.transfer.specs.Pattern.{offsetOf, bAddress}

@@ -5,8 +5,7 @@ use Rattle.bench.specs.Calls.{Desk}
 use Rattle.benchfile.specs.Row.{rowAt}
 use Rattle.benchfile.specs.declared.row.Row.{Row}
 use Rattle.walk.specs.Call.{Calling, calling, callOf}
-use Rattle.walk.specs.Stand.{counted, onward}
-use Rattle.walk.specs.declared.{stand.Stand.Stand, step.Step.Step}
+use Rattle.walk.specs.{Stand.counted, Stand.onward, declared.stand.Stand.Stand, declared.step.Step.Step}
 
 -- a call made: its row, what it answered and left, where the script stands with it counted, and where it goes on
 pub record Stepping : Type 0 where

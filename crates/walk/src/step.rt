@@ -8,9 +8,9 @@ use crate::call::call;
 use crate::stand::Stand;
 use crate::stand::count_call;
 use crate::stand::go_on;
-use bench::Bench;
 use benchfile::row::Row;
 use benchfile::row::row_at;
+use ring::Bench;
 
 // A call made: its row, what it answered and left, where the script stands with it counted, and where it goes on.
 pub struct Step {

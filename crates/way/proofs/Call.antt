@@ -11,9 +11,9 @@ use Rattle.common.specs.{Pick.pick, Width.Bytes}
 use Rattle.asbytes.specs.Machine.{headOf, broken, machineOf, benchOf}
 use Rattle.asbytes.specs.Places.{machineSize, slotAt, countAt, lengthAt}
 use Rattle.bench.specs.Calls.{desk, lentOf, cycleCall, cycleDone, cycleRefused}
-use Rattle.bench.specs.Refusal.{banksOff, recordOff, romOff, lentNumber, alsoOf, cycleNumber}
-use Rattle.bench.specs.Ring.{bench}
-use Rattle.bench.specs.declared.Bench.{Bench}
+use Rattle.ring.specs.Refusal.{banksOff, recordOff, romOff, lentNumber, alsoOf, cycleNumber}
+use Rattle.ring.specs.Slots.{bench}
+use Rattle.ring.specs.declared.Bench.{Bench}
 use Rattle.decode.proofs.Accepted.{machine-ok}
 use Rattle.layout.specs.Layout.{capacity}
 use Rattle.machine.specs.Cycle.{cycled}

@@ -9,7 +9,7 @@ use lib.ListN.{length}
 use Rattle.common.specs.Pick.{pick}
 use Rattle.asbytes.specs.Machine.{headOf}
 use Rattle.asbytes.specs.Places.{machineSize, slotAt, countAt, lengthAt}
-use Rattle.bench.specs.Refusal.{banksOff, recordOff, romOff}
+use Rattle.ring.specs.Refusal.{banksOff, recordOff, romOff}
 use Rattle.bus.specs.Route.{routeOf, memory}
 use Rattle.layout.specs.Layout.{capacity}
 use Rattle.ranges.specs.{Entry.entryOk, Tests.all}

@@ -1,0 +1,3 @@
+-- The record's slots, and the table of refusals.
+pub mod Slots
+pub mod Refusal

@@ -12,7 +12,7 @@ use Rattle.benchfile.specs.declared.row.Row.{Row}
 use Rattle.script.specs.{Run.Running, Row.rowRun}
 use Rattle.append.specs.Sheet.{Sheet, sheet, puts}
 use Rattle.append.proofs.Laws.{puts-none}
-use Rattle.printout.specs.Line.{lineText}
+use Rattle.wording.specs.Line.{lineText}
 use Rattle.printout.specs.Row.{Shown, shownText, rowShown}
 use Rattle.printout.specs.Rows.{Standing, after, stepped}
 use Rattle.printout.specs.declared.{row.Show.Show, row.Show.the-variants.Nothing, row.Show.the-variants.Line}

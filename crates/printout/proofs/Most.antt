@@ -3,7 +3,8 @@ use Prim.Native.Nat.{ℕ, _≤_}
 use native.Mathlib.Omega.{arith}
 use lib.ListN.{length, length-append}
 use Rattle.append.proofs.Decimal.{most}
-use Rattle.printout.specs.{Line.lineText, Row.shownText}
+use Rattle.printout.specs.Row.{shownText}
+use Rattle.wording.specs.Line.{lineText}
 use Rattle.printout.specs.declared.{row.Show.Show, row.Show.the-variants.Nothing, row.Show.the-variants.Line}
 
 pub line-most : (row kind number a b : ℕ) → length (lineText row kind number a b) ≤ 105

@@ -16,7 +16,8 @@ use Rattle.script.specs.{Run.Running, Row.rowRun}
 use Rattle.append.specs.Sheet.{sheet, puts, shownOf}
 use Rattle.append.proofs.Laws.{puts-room}
 use Rattle.start.specs.Start.{refusalOf, startRun}
-use Rattle.printout.specs.{Line.lineText, Line.refusedText, Row.textOf, Row.rowShown}
+use Rattle.printout.specs.Row.{textOf, rowShown}
+use Rattle.wording.specs.Line.{lineText, refusedText}
 use Rattle.printout.specs.Rows.{Standing, start, after, stepped, steps}
 use Rattle.printout.specs.declared.{row.Show.Show, row.Show.the-variants.Line}
 use Rattle.printout.specs.Trace.{linesFrom, restOf, wholeOf, zeros, traceText}

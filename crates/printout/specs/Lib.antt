@@ -1,5 +1,4 @@
--- A bench file run and shown: a line, a row, the rows, the whole trace.
-pub mod Line
+-- A bench file run and shown: a row, the rows, the whole trace.
 pub mod Row
 pub mod Rows
 pub mod Trace

@@ -6,7 +6,7 @@ use Rattle.fields.specs.Bytes.{byteAt}
 use Rattle.benchfile.specs.Row.{rowOf}
 use Rattle.script.specs.{Run.Running, Run.ran, Row.rowRun}
 use Rattle.append.specs.Sheet.{Sheet, sheet, puts}
-use Rattle.printout.specs.Line.{lineText}
+use Rattle.wording.specs.Line.{lineText}
 use Rattle.printout.specs.declared.{row.Lined.Lined, row.Show.Show, row.Show.the-variants.Nothing, row.Show.the-variants.Line}
 
 -- what a row has come to, and the buffer with what is shown of it

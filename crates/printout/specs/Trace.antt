@@ -8,7 +8,8 @@ use Rattle.append.specs.Sheet.{shownOf}
 use Rattle.bench.specs.Calls.{Desk, desk}
 use Rattle.benchfile.specs.{File.bodyOf, Row.rowBytes, Row.rowOf}
 use Rattle.script.specs.Row.{rowRun}
-use Rattle.printout.specs.{Line.refusedText, Row.textOf, Rows.Standing}
+use Rattle.printout.specs.{Row.textOf, Rows.Standing}
+use Rattle.wording.specs.Line.{refusedText}
 use Rattle.printout.specs.declared.{row.Show.Show, row.Show.the-variants.Line}
 use Rattle.start.specs.{Fill.filled, Start.madeFor, Start.refusalOf}
 

@@ -1,11 +1,11 @@
 // The trace of a bench file on standard output, whole lines in few writes: what a buffer holds goes out when no further line has room.
-use crate::line::append_line;
 use crate::row::Show;
 use crate::rows::run_rows;
 use fields::part::part;
 use libc::STDOUT_FILENO;
 use ring::Bench;
 use start::begin;
+use wording::line::append_line;
 
 // The first bytes of a buffer.
 pub fn write_text(out: &[u8], used: usize) -> bool {

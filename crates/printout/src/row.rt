@@ -4,12 +4,12 @@ ghost use denote.Ref.{now};
 ghost use Rattle.bench.specs.Calls.{desk};
 ghost use Rattle.append.specs.Sheet.{sheet, puts};
 ghost use Rattle.printout.specs.Row.{shownText, shown, rowShown};
-use crate::line::append_line;
 use benchfile::row::row_of;
 use fields::word::byte;
 use ring::Bench;
 use script::repeat::Ran;
 use script::row::run_row;
+use wording::line::append_line;
 
 // What is shown of a row.
 pub enum Show {

@@ -1,2 +1,3 @@
--- The refusals in words.
+-- The line of a trace, and the refusals in words.
+pub mod Line
 pub mod Words

@@ -1,4 +1,6 @@
-// The refusals in words.
+// What is printed by row: the line of a trace, and the refusals in words.
+pub mod line;
+
 ghost use mathlib.Core.Path.{_≡_};
 ghost use denote.Ref.{now};
 ghost use Rattle.append.specs.Sheet.{sheet, puts};

@@ -7,7 +7,16 @@ returns : tie.Need-returns
 returns c = back-refused _ (c .before .before .before .before .before .before .lent-number .ensures) (c .before .before .before .before .before .capacity .ensures) (c .before .before .before .before .slot-before .ensures) (c .before .before .read-entry .ensures) (c .before .back-number .ensures) (ne-eqb _ _ (c .if1 .taken))
 
 returns-2 : tie.Need-returns-2
-returns-2 c = back-done _ (c .before .before .before .before .before .before .before .before .before .before .before .before .before .before .before .before .lent-number .ensures) (c .before .before .before .before .before .before .before .before .before .before .before .before .before .before .before .capacity .ensures) (c .before .before .before .before .before .before .before .before .before .before .before .before .before .before .slot-before .ensures) (c .before .before .before .before .before .before .before .before .before .before .before .before .read-entry .ensures) (c .before .before .before .before .before .before .before .before .before .before .before .back-number .ensures) (eq-eqb _ _ (c .before .before .before .before .before .before .before .before .before .before .if1 .left)) (c .before .before .before .before .before .before .before .less-kept .ensures) (c .before .before .before .before .put-back .ensures)
+returns-2 c =
+    let at4 = c .before .before .before .before in
+    let at7 = at4 .before .before .before in
+    let at10 = at7 .before .before .before in
+    let at11 = at10 .before in
+    let at12 = at11 .before in
+    let at14 = at12 .before .before in
+    let at15 = at14 .before in
+    let at16 = at15 .before in
+    back-done _ (at16 .lent-number .ensures) (at15 .capacity .ensures) (at14 .slot-before .ensures) (at12 .read-entry .ensures) (at11 .back-number .ensures) (eq-eqb _ _ (at10 .if1 .left)) (at7 .less-kept .ensures) (at4 .put-back .ensures)
 
 pub back-spec : {M : Type 1} → statement M
 back-spec =

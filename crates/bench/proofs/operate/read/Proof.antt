@@ -7,7 +7,14 @@ returns : tie.Need-returns
 returns c = read-refused _ _ (c .before .lent-number .ensures) _ _ (ne-eqb _ _ (c .if1 .taken))
 
 returns-2 : tie.Need-returns-2
-returns-2 c = read-done _ _ (c .before .before .before .before .before .before .before .before .before .before .before .before .before .before .before .before .lent-number .ensures) _ _ (eq-eqb _ _ (c .before .before .before .before .before .before .before .before .before .before .before .before .before .before .before .if1 .left)) (c .before .before .before .before .before .before .before .before .before .before .before .before .opened-core .ensures) (c .before .before .before .before .before .before .before .before .before .read .ensures) (c .before .before .before .before .before .with-io .ensures) (c .before .before .before .note .ensures) (c .cost .ensures)
+returns-2 c =
+    let at3 = c .before .before .before in
+    let at5 = at3 .before .before in
+    let at9 = at5 .before .before .before .before in
+    let at12 = at9 .before .before .before in
+    let at15 = at12 .before .before .before in
+    let at16 = at15 .before in
+    read-done _ _ (at16 .lent-number .ensures) _ _ (eq-eqb _ _ (at15 .if1 .left)) (at12 .opened-core .ensures) (at9 .read .ensures) (at5 .with-io .ensures) (at3 .note .ensures) (c .cost .ensures)
 
 pub read-spec : {M : Type 1} → statement M
 read-spec =

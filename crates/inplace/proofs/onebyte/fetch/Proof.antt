@@ -46,10 +46,20 @@ returns-3 : tie.Need-returns-3
 returns-3 c = fetch-by ((c .before .before .before .before .before .before .before .before .args .t1)) ((c .before .before .before .before .before .before .before .before .args .rom .now)) ((c .before .before .before .before .before .before .before .before .args .low .now)) ((c .before .before .before .before .before .before .before .before .args .high .now)) _ _ ((c .before .before .before .before .place-for .ensures)) ((c .before .before .before .peek .ensures)) ((c .before .before .route-of .ensures)) ((c .enum-told3 .given .1)) refl
 
 returns-4 : tie.Need-returns-4
-returns-4 c = fetch-by ((c .before .before .before .before .before .before .before .before .before .args .t1)) ((c .before .before .before .before .before .before .before .before .before .args .rom .now)) ((c .before .before .before .before .before .before .before .before .before .args .low .now)) ((c .before .before .before .before .before .before .before .before .before .args .high .now)) _ _ ((c .before .before .before .before .before .place-for .ensures)) ((c .before .before .before .before .peek .ensures)) ((c .before .before .before .route-of .ensures)) ((c .before .enum-told4 .given .1)) ((c .port-byte .ensures))
+returns-4 c =
+    let at3 = c .before .before .before in
+    let at4 = at3 .before in
+    let at5 = at4 .before in
+    let at9 = at5 .before .before .before .before in
+    fetch-by ((at9 .args .t1)) ((at9 .args .rom .now)) ((at9 .args .low .now)) ((at9 .args .high .now)) _ _ ((at5 .place-for .ensures)) ((at4 .peek .ensures)) ((at3 .route-of .ensures)) ((c .before .enum-told4 .given .1)) ((c .port-byte .ensures))
 
 returns-5 : tie.Need-returns-5
-returns-5 c = fetch-by ((c .before .before .before .before .before .before .before .before .before .args .t1)) ((c .before .before .before .before .before .before .before .before .before .args .rom .now)) ((c .before .before .before .before .before .before .before .before .before .args .low .now)) ((c .before .before .before .before .before .before .before .before .before .args .high .now)) _ _ ((c .before .before .before .before .before .place-for .ensures)) ((c .before .before .before .before .peek .ensures)) ((c .before .before .before .route-of .ensures)) ((c .before .enum-told5 .given .1)) ((c .read .ensures))
+returns-5 c =
+    let at3 = c .before .before .before in
+    let at4 = at3 .before in
+    let at5 = at4 .before in
+    let at9 = at5 .before .before .before .before in
+    fetch-by ((at9 .args .t1)) ((at9 .args .rom .now)) ((at9 .args .low .now)) ((at9 .args .high .now)) _ _ ((at5 .place-for .ensures)) ((at4 .peek .ensures)) ((at3 .route-of .ensures)) ((c .before .enum-told5 .given .1)) ((c .read .ensures))
 
 pub fetch-spec : {M : Type 1} → statement M
 fetch-spec =

@@ -9,7 +9,12 @@ use Rattle.inplace.proofs.onebyte.note.Statement.{statement}
 use Rattle.inplace.proofs.onebyte.note.Tie as tie
 
 returns : tie.Need-returns
-returns c = (c .before .before .put-slot .ensures) ∙ (λ i. writeSlot entrySize ((c .before .before .before .before .before .before .before .before .before .before .args .slot)) (((c .before .before .before .before .before .put .ensures) ∙ (λ j. patched ((c .before .before .before .before .before .before .before .before .before .before .args .e)) (at the.oldCount) ((c .before .before .before .before .before .before .before .before .olds-bytes .ensures) j))) i) ((c .before .before .before .before .before .before .before .before .before .before .args .entries .now)))
+returns c =
+    let at2 = c .before .before in
+    let at5 = at2 .before .before .before in
+    let at8 = at5 .before .before .before in
+    let at10 = at8 .before .before in
+    (at2 .put-slot .ensures) ∙ (λ i. writeSlot entrySize ((at10 .args .slot)) (((at5 .put .ensures) ∙ (λ j. patched ((at10 .args .e)) (at the.oldCount) ((at8 .olds-bytes .ensures) j))) i) ((at10 .args .entries .now)))
 
 pub note-spec : {M : Type 1} → statement M
 note-spec =

@@ -23,7 +23,13 @@ returns-2 c =
     carry-crossed (start .args .rom .now) (start .args .machine .now) (start .args .low .now) (start .args .high .now) (start .args .entries .now) (start .args .out .now) _ _ _ (all-bytes (start .args .machine .now) (λ k h. (at-slice-known .slice-known .given) k .fits)) (at-way-of .way-of .ensures) (at-if2 .if2 .taken) (at-carry .carry .ensures)
 
 returns-3 : tie.Need-returns-3
-returns-3 c = cycle-by _ _ _ _ _ (c .before .before .before .before .before .before .before .before .before .before .before .before .before .before .before .before .before .before .before .before .bench-of .ensures) _ _ _ (c .before .before .before .before .before .before .before .before .before .before .before .before .before .before .before .before .before .before .before .before .before .before .before .before .before .before .before .before .before .before .before .before .args .out .now) (c .before .before .before .before .before .before .before .before .before .before .before .before .before .before .before .before .cycle .ensures) (left-by _ _ _ _ (c .before .before .before .before .before .before .save .ensures) (c .before .before .put-answer .ensures))
+returns-3 c =
+    let at2 = c .before .before in
+    let at6 = at2 .before .before .before .before in
+    let at16 = at6 .before .before .before .before .before .before .before .before .before .before in
+    let at20 = at16 .before .before .before .before in
+    let at32 = at20 .before .before .before .before .before .before .before .before .before .before .before .before in
+    cycle-by _ _ _ _ _ (at20 .bench-of .ensures) _ _ _ (at32 .args .out .now) (at16 .cycle .ensures) (left-by _ _ _ _ (at6 .save .ensures) (at2 .put-answer .ensures))
 
 pub cloverwain-cycle-spec : {M : Type 1} → statement M
 cloverwain-cycle-spec =

@@ -3,7 +3,13 @@ use borrow.Author.Needs.{needs}
 use Rattle.player_abi.proofs.calls.cloverwain_read.Tie as tie
 
 returns : tie.Need-returns
-returns c = read-by _ _ _ _ _ (c .before .before .before .before .before .before .before .before .before .before .before .before .before .before .before .before .before .before .before .before .bench-of .ensures) _ _ (c .before .before .before .before .before .before .before .before .before .before .before .before .before .before .before .before .before .before .before .before .before .before .before .before .before .before .before .before .args .out .now) (c .before .before .before .before .before .before .before .before .before .before .before .before .before .before .before .before .read .ensures) (left-by _ _ _ _ (c .before .before .before .before .before .before .before .save .ensures) (c .before .before .put .ensures))
+returns c =
+    let at2 = c .before .before in
+    let at7 = at2 .before .before .before .before .before in
+    let at16 = at7 .before .before .before .before .before .before .before .before .before in
+    let at20 = at16 .before .before .before .before in
+    let at28 = at20 .before .before .before .before .before .before .before .before in
+    read-by _ _ _ _ _ (at20 .bench-of .ensures) _ _ (at28 .args .out .now) (at16 .read .ensures) (left-by _ _ _ _ (at7 .save .ensures) (at2 .put .ensures))
 
 pub cloverwain-read-spec : {M : Type 1} → statement M
 cloverwain-read-spec =

@@ -30,7 +30,11 @@ loop-less c = omega (arith, (c .before .before .before .before .before .before .
 
 loop-again : tie.Need-loop-again Inv-loop μ-loop
 unfolding steps
-loop-again c = going-on (c .before .before .before .before .before .before .before .before .before .before .before .before .before .before .loop .inv) (c .before .before .before .before .before .before .before .before .before .before .before .before .before .loop-test .taken) (stepped _ _ _) (c .before .before .before .before .before .before .before .before .step .ensures) refl ((c .before .before .before .before .before .before .before .before .step .kept .1 .1 .1 .1 .1 .1 .1 .0) also (c .before .before .before .before .before .before .before .before .step .kept .1 .0) also (c .before .before .before .before .before .before .before .before .step .kept .1 .1 .0) also (c .before .before .before .before .before .before .before .before .step .kept .1 .1 .1 .0) also tt)
+loop-again c =
+    let at8 = c .before .before .before .before .before .before .before .before in
+    let at13 = at8 .before .before .before .before .before in
+    let at14 = at13 .before in
+    going-on (at14 .loop .inv) (at13 .loop-test .taken) (stepped _ _ _) (at8 .step .ensures) refl ((at8 .step .kept .1 .1 .1 .1 .1 .1 .1 .0) also (at8 .step .kept .1 .0) also (at8 .step .kept .1 .1 .0) also (at8 .step .kept .1 .1 .1 .0) also tt)
 
 same-length : tie.Need-same-length Inv-loop μ-loop
 same-length c = (c .before .loop .inv .lengths .1 .0)

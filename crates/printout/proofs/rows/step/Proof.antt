@@ -32,7 +32,14 @@ same-length-4 : tie.Need-same-length-4
 same-length-4 c = (c .before .before .before .before .before .before .before .before .before .before .run-line .kept .1 .1 .1 .1 .1 .1 .1 .1 .0)
 
 returns-4 : tie.Need-returns-4
-returns-4 c = step-goes _ _ _ _ (lt-leb _ _ (c .before .before .before .before .before .before .before .before .before .before .before .before .before .before .before .before .before .before .before .before .before .if1 .left)) (eq-eqb _ _ (c .before .before .before .before .before .before .before .before .before .before .before .before .before .before .before .before .before .before .if2 .left)) (c .before .before .before .before .before .before .before .before .before .before .before .before .before .before .before .before .before .has-room .ensures) (not-false _ (c .before .before .before .before .before .before .before .before .before .before .before .before .before .before .before .before .if3 .left)) (c .before .before .before .before .before .before .before .before .before .before .before .before .before .before .before .before .before .before .before .before .part .ensures) (c .before .before .before .before .before .before .before .before .before .before .run-line .ensures)
+returns-4 c =
+    let at10 = c .before .before .before .before .before .before .before .before .before .before in
+    let at16 = at10 .before .before .before .before .before .before in
+    let at17 = at16 .before in
+    let at18 = at17 .before in
+    let at20 = at18 .before .before in
+    let at21 = at20 .before in
+    step-goes _ _ _ _ (lt-leb _ _ (at21 .if1 .left)) (eq-eqb _ _ (at18 .if2 .left)) (at17 .has-room .ensures) (not-false _ (at16 .if3 .left)) (at20 .part .ensures) (at10 .run-line .ensures)
 
 pub step-spec : {M : Type 1} → statement M
 step-spec =

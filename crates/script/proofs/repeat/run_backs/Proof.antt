@@ -22,7 +22,11 @@ loop-holds c = going-start refl
 
 loop-again : tie.Need-loop-again Inv-loop μ-loop
 unfolding backsRun
-loop-again c = going-on (c .before .before .before .before .before .before .before .before .before .before .before .loop .inv) (c .before .before .before .before .before .before .before .before .before .before .loop-test .taken) backStep (c .before .before .before .before .before .before .back-step .ensures) refl ((c .before .before .before .before .before .before .back-step .kept .1 .0) also (c .before .before .before .before .before .before .back-step .kept .1 .1 .0) also (c .before .before .before .before .before .before .back-step .kept .1 .1 .1 .0) also tt)
+loop-again c =
+    let at6 = c .before .before .before .before .before .before in
+    let at10 = at6 .before .before .before .before in
+    let at11 = at10 .before in
+    going-on (at11 .loop .inv) (at10 .loop-test .taken) backStep (at6 .back-step .ensures) refl ((at6 .back-step .kept .1 .0) also (at6 .back-step .kept .1 .1 .0) also (at6 .back-step .kept .1 .1 .1 .0) also tt)
 
 same-length : tie.Need-same-length Inv-loop μ-loop
 same-length c = (c .before .loop .inv .lengths .0)

@@ -25,7 +25,14 @@ add-i c = omega (arith, (c .before .before .before .before .before .before .befo
 
 loop-again : tie.Need-loop-again Inv-loop μ-loop
 unfolding cyclesRun
-loop-again c = going-on (c .before .before .before .before .before .before .before .before .before .before .before .before .before .before .loop .inv) (c .before .before .before .before .before .before .before .before .before .before .before .before .before .loop-test .taken) (cycleStep _ _ _ _) (cycle-with _ _ (c .before .before .before .before .before .before .before .before .before .before .before .before .first-of .ensures) (c .before .before .before .before .before .before .before .before .before .before .before .first-flag .ensures) (c .before .before .before .before .before .before .before .before .before .before .first-flag2 .ensures) (c .before .before .before .before .before .before .cycle-step .ensures)) refl ((c .before .before .before .before .before .before .cycle-step .kept .1 .0) also (c .before .before .before .before .before .before .cycle-step .kept .1 .1 .0) also (c .before .before .before .before .before .before .cycle-step .kept .1 .1 .1 .0) also tt)
+loop-again c =
+    let at6 = c .before .before .before .before .before .before in
+    let at10 = at6 .before .before .before .before in
+    let at11 = at10 .before in
+    let at12 = at11 .before in
+    let at13 = at12 .before in
+    let at14 = at13 .before in
+    going-on (at14 .loop .inv) (at13 .loop-test .taken) (cycleStep _ _ _ _) (cycle-with _ _ (at12 .first-of .ensures) (at11 .first-flag .ensures) (at10 .first-flag2 .ensures) (at6 .cycle-step .ensures)) refl ((at6 .cycle-step .kept .1 .0) also (at6 .cycle-step .kept .1 .1 .0) also (at6 .cycle-step .kept .1 .1 .1 .0) also tt)
 
 same-length : tie.Need-same-length Inv-loop μ-loop
 same-length c = (c .before .loop .inv .lengths .0)

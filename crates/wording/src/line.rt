@@ -4,7 +4,7 @@ ghost use mathlib.Core.Path.{_≡_};
 ghost use denote.Ref.{now};
 ghost use Rattle.append.specs.Sheet.{sheet, puts};
 ghost use Rattle.append.specs.Number.{decimal as Number·decimal};
-ghost use Rattle.printout.specs.Line.{lineText};
+ghost use Rattle.wording.specs.Line.{lineText};
 use append::number::decimal;
 use append::push_byte;
 

@@ -1,7 +1,7 @@
 use Rattle.append.proofs.Laws.{then, last}
 use borrow.Author.Needs.{needs}
-use Rattle.printout.proofs.line.ended.Statement.{statement}
-use Rattle.printout.proofs.line.ended.Tie as tie
+use Rattle.wording.proofs.line.ended.Statement.{statement}
+use Rattle.wording.proofs.line.ended.Tie as tie
 
 returns : tie.Need-returns
 returns c = then _ _ _ (c .before .before .before .before .before .before .decimal .ensures) (last _ _ (c .before .before .push-byte .ensures))

@@ -6,9 +6,8 @@ use mathlib.Core.Path.{_≡_, refl, ap, _∙_}
 use native.Mathlib.Omega.{arith}
 use borrow.Author.Tests.{le-leb}
 use Rattle.reader.specs.declared.reader.Reader.{Reader}
-use Rattle.reader.specs.Letter.{signOf, digitOf}
+use Rattle.reader.specs.{Letter.signOf, Letter.digitOf, Draft.draft, Draft.switchOf}
 use Rattle.reader.specs.Word.{word, letterOf, dollarOf, worthOf}
-use Rattle.reader.specs.Draft.{draft, keywordOf, switchOf}
 use Rattle.reader.specs.Line.{numberOf, namedOf, takenOf, closingOf, lineOf}
 use Rattle.reader.specs.Reader.{reader, shutOf, spacedOf, plainOf, stepOf, readOf}
 use Rattle.bothways.proofs.{Quietly.quietly, Decimal.decimal-back}

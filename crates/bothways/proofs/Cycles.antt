@@ -1,16 +1,15 @@
 -- A cycles row comes back, with its event and flags.
 use Prim.Native.Nat.{ℕ, _/_, _%_, _≤_, _<_}
 use mathlib.Core.Bool.{Bool, true, false}
-use mathlib.Core.List.{List, [], _∷_, _++_}
+use mathlib.Core.List.{List, [], _++_}
 use mathlib.Core.Path.{_≡_, refl, ap, sym, _∙_}
 use native.Mathlib.Omega.{arith}
 use lib.Dec.{eqb}
 use borrow.Author.Tests.{le-leb, eqb-true}
 use Rattle.common.specs.Pick.{pick}
 use Rattle.reader.specs.declared.reader.Reader.{Reader}
-use Rattle.reader.specs.Letter.{signOf, digitOf}
+use Rattle.reader.specs.{Letter.signOf, Letter.digitOf, Draft.draft, Draft.optionOf}
 use Rattle.reader.specs.Word.{word, letterOf, worthOf}
-use Rattle.reader.specs.Draft.{draft, keywordOf, optionOf}
 use Rattle.reader.specs.Line.{numberOf, namedOf, takenOf, closingOf, lineOf}
 use Rattle.reader.specs.Reader.{reader, shutOf, spacedOf, plainOf, stepOf, readOf}
 use Rattle.bothways.proofs.{Quietly.calm, Quietly.quietly, Decimal.decimal-back}

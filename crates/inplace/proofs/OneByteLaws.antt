@@ -1,5 +1,5 @@
 -- A byte moved on the machine's bytes where they stand is the cycle's own definition.
-use Prim.Native.Nat.{ℕ, zero, suc, _+_, _-_, _*_, _%_, _^_, _≤_, _<_}
+use Prim.Native.Nat.{ℕ, zero, suc, _+_, _-_, _%_, _^_, _≤_, _<_}
 use mathlib.Core.Bool.{Bool, true, false, not, _&&_}
 use mathlib.Core.List.{List, [], _∷_}
 use mathlib.Core.Path.{_≡_, refl, sym, ap, _∙_, subst}
@@ -37,20 +37,20 @@ use Rattle.registers.specs.{Channel.noChannel, Read.readByte}
 use Rattle.registers.specs.Groups.{withIo-channels, withDmaChannel-a1t, withDmaChannel-das}
 use Rattle.registers.specs.declared.{Io.Io, channel.DmaChannel.DmaChannel, wm_address.WmAddress.WmAddress}
 use Rattle.signals.specs.Flags.{nmiLine}
-use Rattle.state.specs.declared.{Dma.Dma, DmaProgress.DmaProgress, Machine.Machine}
+use Rattle.state.specs.declared.{DmaProgress.DmaProgress, Machine.Machine}
 use Rattle.state.specs.declared.DmaProgress.the-variants as progress
 use Rattle.transfer.specs.{Bits.flagOf, Bits.down, Pattern.offsetOf, Pattern.bAddress}
 use Rattle.transfer.specs.Byte.{tripOf, moved, movedLog, nextA1t, stepA1t, tripAt, transferByte}
 use Rattle.transfer.specs.declared.byte.Trip.{Trip}
 use Rattle.transfer.proofs.PlainMove.{readOf, leaves, plain-move}
-use Rattle.way.specs.Seen.{clockAt, nmiAt, busyAt, baseAt, unitAt, dmapAt, a1tAt, a1bAt, dasAt, bsideAt, tripIn, seen}
+use Rattle.way.specs.Seen.{clockAt, nmiAt, busyAt, unitAt, dmapAt, a1tAt, a1bAt, bsideAt, tripIn, seen}
 use Rattle.way.specs.Way.{tripTests, wayOf}
-use Rattle.way.proofs.Call.{Goes, benchIn, call-is, moves as goesMoving}
+use Rattle.way.proofs.Call.{benchIn, call-is, moves as goesMoving}
 use Rattle.way.proofs.Ready.{Ready, machineIn, channelIn, channel-is, Due, due, bytes-are, idle, one, two, runs}
 use Rattle.wram.specs.Banks.{banks, peeked, poked}
 use Rattle.wram.specs.Olds.{noOlds, keptAt}
 use Rattle.wram.specs.declared.Olds.{Olds}
-use Rattle.inplace.specs.OneByte.{wmaddBytes, portByte, placeFor, byteBy, byteFrom, wmaddNext, writtenNext, afterRegisters, afterUnit, afterChannel, afterMove, carried}
+use Rattle.inplace.specs.OneByte.{wmaddBytes, portByte, placeFor, byteBy, byteFrom, wmaddNext, writtenNext, afterMove, carried}
 use Rattle.inplace.specs.Rest.{at, counting, edgeAt}
 
 -- ---- the byte

@@ -24,14 +24,14 @@ use Rattle.hdma.specs.Engine.{withWait}
 use Rattle.image.specs.{Encode.encode, Groups.flag}
 use Rattle.image.proofs.Size.{entry-size}
 use Rattle.layout.specs.Layout as the
-use Rattle.layout.specs.Layout.{num, imageSize, entrySize, capacity}
+use Rattle.layout.specs.Layout.{imageSize, entrySize, capacity}
 use Rattle.machine.specs.Cycle.{Turned, cycled}
 use Rattle.machine.specs.declared.event.Event.the-variants.{Nothing}
 use Rattle.machine.proofs.Quiet.{left, quiet-cycle}
 use Rattle.state.specs.declared.Machine.{Machine}
 use Rattle.way.specs.Seen.{waitAt, clockAt, nmiAt, seen}
 use Rattle.way.specs.Way.{waiting, wayOf}
-use Rattle.way.proofs.Call.{Goes, benchIn, call-is, waits}
+use Rattle.way.proofs.Call.{benchIn, call-is, waits}
 use Rattle.way.proofs.Ready.{Ready, machineIn, seen-same, bytes-are, idle, one, two, runs, rests}
 use Rattle.wram.specs.Olds.{noOlds}
 use Rattle.wram.specs.declared.Olds.{Olds}

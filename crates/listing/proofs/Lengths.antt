@@ -1,12 +1,11 @@
 -- How long a listing's lines are at most: a buffer with so much room takes them whole.
 use Prim.Native.Nat.{ℕ, zero, suc, _+_, _*_, _/_, _%_, _≤_, min}
-use mathlib.Core.Bool.{Bool, true, false}
-use mathlib.Core.List.{List, [], _∷_}
+use mathlib.Core.Bool.{Bool, false}
+use mathlib.Core.List.{List}
 use native.Mathlib.Omega.{arith}
 use lib.Dec.{eqb, ltb}
 use lib.ListN.{length, getD, length-append}
 use Rattle.common.proofs.{AllLaws._also_, TableLaws.pick-elim, TableLaws.find-elim}
-use Rattle.append.specs.Number.{decimal}
 use Rattle.append.proofs.Decimal.{most, most-padded}
 use Rattle.bus.specs.{Access.noAccess, declared.access.Access.Access, declared.access.Log.Log}
 use Rattle.registers.specs.declared.wm_address.WmAddress.{WmAddress}
@@ -14,7 +13,7 @@ use Rattle.state.specs.declared.Machine.{Machine}
 use Rattle.touch.specs.{Reach.reachOf, Who.whoOf, Who.startsAtZero}
 use Rattle.touch.specs.declared.{reach.Reach.Reach, who.Who.Who}
 use Rattle.touch.specs.declared.who.Who.the-variants.{Cpu, Dma as General, Hdma}
-use Rattle.wording.specs.Words.{refusals, pageWords, wordsOf}
+use Rattle.wording.specs.Words.{refusals, wordsOf}
 use Rattle.listing.specs.Line.{headText, whoText, verbText, spotText, ownText, zeroText, shows, accessText}
 use Rattle.listing.specs.Cycle.{accessesFrom, logText, edgeText, cycleText}
 use Rattle.listing.specs.Event.{heldText, originText, backText, refusedText, endText}

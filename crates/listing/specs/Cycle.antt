@@ -1,7 +1,7 @@
 -- The lines of a cycle (docs/MOVES.md): its accesses in order, then the NMI edge, with the clock before the cycle.
 use Prim.Native.Nat.{ℕ, zero, suc, _+_, min}
 use mathlib.Core.Bool.{Bool, false}
-use mathlib.Core.List.{List, [], _∷_, _++_}
+use mathlib.Core.List.{List, [], _++_}
 use lib.Dec.{eqb}
 use lib.ListN.{getD}
 use Rattle.common.specs.Pick.{pick}

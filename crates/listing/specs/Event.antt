@@ -1,6 +1,6 @@
 -- The lines that are about a whole row (docs/MOVES.md): cycles held, steps taken back, a refusal (document 01's table) in words.
 use Prim.Native.Nat.{ℕ, _/_, _%_}
-use mathlib.Core.List.{List, [], _∷_, _++_}
+use mathlib.Core.List.{List, [], _++_}
 use lib.Dec.{eqb, ltb}
 use Rattle.common.specs.Pick.{pick}
 use Rattle.append.specs.{Number.decimal, Texts.codes}

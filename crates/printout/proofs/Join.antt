@@ -10,7 +10,7 @@ use Rattle.fields.specs.Bytes.{byteAt}
 use Rattle.benchfile.specs.Row.{rowOf, rowBytes}
 use Rattle.benchfile.specs.declared.row.Row.{Row}
 use Rattle.script.specs.{Run.Running, Row.rowRun}
-use Rattle.append.specs.Sheet.{Sheet, sheet, puts}
+use Rattle.append.specs.Sheet.{Sheet, puts}
 use Rattle.append.proofs.Laws.{puts-none}
 use Rattle.wording.specs.Line.{lineText}
 use Rattle.printout.specs.Row.{Shown, shownText, rowShown}

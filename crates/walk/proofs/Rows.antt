@@ -15,7 +15,7 @@ use Rattle.benchfile.proofs.row.Row.{the-type}
 use Rattle.benchfile.specs.declared.row.Row.{Row}
 use Rattle.benchfile.specs.declared.row.Row.the-variants.{Cycles, Read, Write, Pad, Plug, Answer as Reply, Back, Broken}
 use Rattle.script.specs.Row.{rowRun}
-use Rattle.script.specs.Run.{Running, start, plusOne, cycleStep, cyclesRun, backStep, backsRun}
+use Rattle.script.specs.Run.{Running, plusOne, cycleStep, cyclesRun, backStep, backsRun}
 use Rattle.walk.specs.{Call.Calling, Call.callOf, Step.Stepping, Step.stepBy}
 use Rattle.walk.specs.Stand.{up, counted, onward}
 use Rattle.walk.specs.declared.stand.Stand.{Stand}

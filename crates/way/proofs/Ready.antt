@@ -1,13 +1,13 @@
 -- The machine's bytes that pass the tests of the way: what the machine is that they stand for.
 use Prim.Native.Nat.{ℕ, zero, suc, _+_, _-_, _%_, _≤_, _<_}
-use mathlib.Core.Bool.{Bool, true, false, not, _&&_, _||_, and-eq-true-iff}
+use mathlib.Core.Bool.{true, false, _&&_, _||_, and-eq-true-iff}
 use mathlib.Core.List.{List, [], _∷_}
 use mathlib.Core.Path.{_≡_, refl, sym, ap, _∙_, subst}
 use native.Mathlib.Omega.{arith}
 use borrow.Author.Tests.{eqb-true, not-true}
 use lib.Bits.{bitAnd}
 use lib.Dec.{eqb, ltb}
-use lib.ListN.{length, getD, take}
+use lib.ListN.{length, getD}
 use lib.Seq.{length-take-le}
 use Rattle.common.specs.{Pick.pick, Width.Byte, Width.Bytes}
 use Rattle.common.proofs.AllLaws.{all-take, byte-fits}
@@ -19,7 +19,7 @@ use Rattle.decode.proofs.Accepted.{olds-ok, only}
 use Rattle.image.specs.Encode.{encode}
 use Rattle.layout.specs.Layout as the
 use Rattle.layout.specs.Layout.{num, imageSize}
-use Rattle.ranges.specs.{Entry.entryOk, Tests.all}
+use Rattle.ranges.specs.{Entry.entryOk}
 use Rattle.ranges.proofs.Tests.{Every, every}
 use Rattle.registers.specs.Channel.{noChannel}
 use Rattle.registers.specs.declared.channel.DmaChannel.{DmaChannel}
@@ -30,7 +30,7 @@ use Rattle.state.specs.declared.Machine.{Machine}
 use Rattle.transfer.specs.{Bits.down, Pattern.offsetOf, Pattern.bAddress}
 use Rattle.wram.specs.Olds.{noOld, noOlds}
 use Rattle.wram.specs.declared.Olds.{Olds}
-use Rattle.way.specs.Seen.{Seen, seen, busyAt, unitAt, dasAt}
+use Rattle.way.specs.Seen.{seen, busyAt, unitAt, dasAt}
 use Rattle.way.specs.Way.{pressedTests, calmTests, waiting, dueTests}
 
 -- ---- what is seen in the bytes is seen in their image

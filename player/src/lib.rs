@@ -88,7 +88,8 @@ pub struct Machine {
 
 impl Machine {
     /// A machine at power-on whose record keeps `slots` operations, with work RAM at zeros. `bit_cycles` is how long
-    /// the automatic joypad read takes for a bit (264 on the console).
+    /// the automatic joypad read takes for a bit (264 on the console). `rom` repeats where its length is a power of two
+    /// of at least 32,768; any other is silent past its end.
     pub fn fresh(slots: usize, bit_cycles: u16, rom: Vec<u8>) -> Result<Self, Refusal> {
         let length = slots.checked_mul(ENTRY_SIZE).ok_or(Refusal::RecordLength)?;
         let mut bytes = [0; MACHINE_SIZE];

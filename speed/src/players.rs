@@ -39,9 +39,9 @@ pub struct Plain {
 }
 
 impl Plain {
-    pub fn parts(&mut self) -> (&mut plain::Machine, plain::Lent<'_>) {
+    pub fn parts<'a>(&'a mut self, rom: &'a [u8]) -> (&'a mut plain::Machine, plain::Lent<'a>) {
         let Lent { low, high, record } = &mut self.lent;
-        (&mut self.machine, plain::Lent { low, high, record, rom: &[] })
+        (&mut self.machine, plain::Lent { low, high, record, rom })
     }
 
     /// An answer in the library's bytes.
@@ -63,23 +63,23 @@ impl Player for Plain {
     }
 
     fn cycle(&mut self, event: u8, line_due: bool) -> Result<(), u8> {
-        let (machine, lent) = self.parts();
+        let (machine, lent) = self.parts(&[]);
         black_box(&machine.cycle(lent, event, line_due, false)?);
         Ok(())
     }
 
     fn answered(&mut self, event: u8, line_due: bool) -> Result<[u8; raw::ANSWER_SIZE], u8> {
-        let (machine, lent) = self.parts();
+        let (machine, lent) = self.parts(&[]);
         machine.cycle(lent, event, line_due, false).map(|cycle| Plain::bytes(&cycle))
     }
 
     fn write(&mut self, addr: u16, byte: u8) -> Result<u8, u8> {
-        let (machine, lent) = self.parts();
+        let (machine, lent) = self.parts(&[]);
         machine.write(lent, 0, addr, byte).map(|moved| moved.cost)
     }
 
     fn answer(&mut self, addr: u16, byte: u8) -> Result<(), u8> {
-        let (machine, lent) = self.parts();
+        let (machine, lent) = self.parts(&[]);
         machine.answer(lent, addr, byte)
     }
 
@@ -100,9 +100,9 @@ pub struct Proved {
 }
 
 impl Proved {
-    pub fn parts(&mut self) -> raw::Lent<'_> {
+    pub fn parts<'a>(&'a mut self, rom: &'a [u8]) -> raw::Lent<'a> {
         let Lent { low, high, record } = &mut self.lent;
-        raw::Lent { machine: &mut self.machine, low, high, record, rom: &[] }
+        raw::Lent { machine: &mut self.machine, low, high, record, rom }
     }
 }
 
@@ -132,12 +132,12 @@ impl Player for Proved {
 
     fn write(&mut self, addr: u16, byte: u8) -> Result<u8, u8> {
         let mut cost = [0];
-        let number = raw::write(self.parts(), 0, addr, byte, &mut cost);
+        let number = raw::write(self.parts(&[]), 0, addr, byte, &mut cost);
         checked(number, cost[0])
     }
 
     fn answer(&mut self, addr: u16, byte: u8) -> Result<(), u8> {
-        checked(raw::port_answer(self.parts(), addr, byte), ())
+        checked(raw::port_answer(self.parts(&[]), addr, byte), ())
     }
 
     fn machine(&self) -> [u8; raw::MACHINE_SIZE] {

@@ -8,7 +8,7 @@ use lib.ListN.{length, length-set}
 use Rattle.common.specs.All.{AllOf}
 use Rattle.common.proofs.AllLaws.{all-set, all-getD, byte-fits}
 use Rattle.common.proofs.TableLaws.{pick-elim}
-use Rattle.cartridge.specs.Cartridge.{romOffset, romByte}
+use Rattle.cartridge.specs.Cartridge.{romOffset, romPlace, romByte}
 use Rattle.registers.proofs.FitGroups.{fit-wmadd, fit-enables, fit-channels, fit-openbus}
 use Rattle.registers.proofs.FitKept.{fit-write, fit-read-byte, fit-read}
 use Rattle.registers.proofs.{FitParts.fit-stepped, Fit.FitChannel, Fit.FitIo}
@@ -42,7 +42,9 @@ wm-fits wm.Bank7E h = h
 wm-fits wm.Bank7F h = h
 
 rom-fits : (rom : List ℕ) (b a : ℕ) {d : ℕ} → Bytes rom → Byte d → Byte (romByte rom b a d)
-rom-fits rom b a f h = pick-elim Byte (ltb a 0x8000) h (pick-elim Byte (ltb (romOffset b a) (length rom)) (byte-fits rom (romOffset b a) f) h)
+rom-fits rom b a f h =
+    let i = romPlace (length rom) (romOffset b a) in
+    pick-elim Byte (ltb a 0x8000) h (pick-elim Byte (ltb i (length rom)) (byte-fits rom i f) h)
 
 record FitRead (r : IoRead) : Type 0 where
   io : FitIo (r .io)

@@ -1,9 +1,10 @@
-// The cartridge: a lent ROM that answers from $8000 up (document 01, "Added by the port").
+// The cartridge: a lent ROM that answers from $8000 up (document 01, "Added by the port"), and repeats where its length is a power of two of
+// at least 32,768 (document 02, 1/12).
 ghost use mathlib.Core.Path.{_≡_};
 ghost use denote.Ref.{now};
-ghost use Rattle.cartridge.specs.Cartridge.{romOffset, romByte, romCost};
+ghost use Rattle.cartridge.specs.Cartridge.{romOffset, romPlace, romByte, romCost};
 
-// Where an address from $8000 up lies in the ROM.
+// An address from $8000 up as an offset into a ROM of the longest kind.
 fn offset(bank: u8, addr: u16) -> usize
     ensures { λ r. ⌜ r ≡ romOffset bank addr ⌝ }
 {
@@ -13,6 +14,23 @@ fn offset(bank: u8, addr: u16) -> usize
     (bank % 128) as usize * 32768 + (addr - 0x8000) as usize
 }
 
+// Where an offset lies in a ROM of `len` bytes. Each remainder is by a constant, so that no division is made.
+fn place(len: usize, at: usize) -> usize
+    ensures { λ r. ⌜ r ≡ romPlace len at ⌝ }
+{
+    match len {
+        32768 => at % 32768,
+        65536 => at % 65536,
+        131072 => at % 131072,
+        262144 => at % 262144,
+        524288 => at % 524288,
+        1048576 => at % 1048576,
+        2097152 => at % 2097152,
+        4194304 => at % 4194304,
+        _ => at,
+    }
+}
+
 // The byte that the ROM answers; `openbus` where no chip does.
 pub fn read(rom: &[u8], bank: u8, addr: u16, openbus: u8) -> u8
     ensures { λ r. ⌜ r ≡ romByte (now (rom .entry)) bank addr openbus ⌝ }
@@ -20,7 +38,7 @@ pub fn read(rom: &[u8], bank: u8, addr: u16, openbus: u8) -> u8
     if addr < 0x8000 {
         return openbus;
     }
-    let at = offset(bank, addr);
+    let at = place(rom.len(), offset(bank, addr));
     if at < rom.len() { rom[at] } else { openbus }
 }
 

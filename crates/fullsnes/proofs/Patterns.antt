@@ -3,22 +3,11 @@ use Prim.Native.Nat.{ℕ, zero, suc, _/_, _%_, _<_}
 use mathlib.Core.Path.{_≡_, refl, _∙_}
 use native.Mathlib.Omega.{arith}
 use lib.ListN.{length, getD}
+use Rattle.common.proofs.RangeLaws.{below-eight}
 use Rattle.fullsnes.specs.Said.{patternOf}
 use Rattle.transfer.specs.Pattern.{offsetOf, unitLen}
 
--- what holds at 0 to 7 holds of every mode
-modes : (P : ℕ → Type 0) → P 0 → P 1 → P 2 → P 3 → P 4 → P 5 → P 6 → P 7 → (m : ℕ) → m < 8 → P m
-modes P a b c d e f g h zero k = a
-modes P a b c d e f g h (suc zero) k = b
-modes P a b c d e f g h (suc (suc zero)) k = c
-modes P a b c d e f g h (suc (suc (suc zero))) k = d
-modes P a b c d e f g h (suc (suc (suc (suc zero)))) k = e
-modes P a b c d e f g h (suc (suc (suc (suc (suc zero))))) k = f
-modes P a b c d e f g h (suc (suc (suc (suc (suc (suc zero)))))) k = g
-modes P a b c d e f g h (suc (suc (suc (suc (suc (suc (suc zero))))))) k = h
-modes P a b c d e f g h (suc (suc (suc (suc (suc (suc (suc (suc m)))))))) k = absurd (omega arith)
-
--- and at 0 to 3, of every place in a unit
+-- what holds at 0 to 3 holds of every place in a unit
 places : (P : ℕ → Type 0) → P 0 → P 1 → P 2 → P 3 → (u : ℕ) → u < 4 → P u
 places P a b c d zero k = a
 places P a b c d (suc zero) k = b
@@ -39,7 +28,7 @@ pub unit-length : (dmap : ℕ) → unitLen dmap ≡ length (patternOf dmap)
 unfolding unitLen
 unit-length dmap =
     let e : dmap % 8 % 8 ≡ dmap % 8 = omega arith in
-    rw e at (modes (λ m. unitLen m ≡ length (patternOf m)) refl refl refl refl refl refl refl refl (dmap % 8) (omega arith))
+    rw e at (below-eight (λ m. unitLen m ≡ length (patternOf m)) refl refl refl refl refl refl refl refl (dmap % 8) (omega arith))
 
 -- the byte at place u, where a mode's pattern goes round
 abbrev At : ℕ → ℕ → Type 0
@@ -86,4 +75,4 @@ pub offset : (dmap u : ℕ) → offsetOf dmap u ≡ getD (patternOf dmap) (u % u
 unfolding offsetOf unitLen
 offset dmap u =
     let e : dmap % 8 % 8 ≡ dmap % 8 = omega arith in
-    rw e at (modes (λ m. At m u) (offset-0 u) (offset-1 u) (offset-2 u) (offset-3 u) (offset-4 u) (offset-5 u) (offset-6 u) (offset-7 u) (dmap % 8) (omega arith))
+    rw e at (below-eight (λ m. At m u) (offset-0 u) (offset-1 u) (offset-2 u) (offset-3 u) (offset-4 u) (offset-5 u) (offset-6 u) (offset-7 u) (dmap % 8) (omega arith))

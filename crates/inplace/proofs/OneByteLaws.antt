@@ -8,7 +8,7 @@ use borrow.Author.Tests.{leb-true, ltb-true}
 use lib.Dec.{T, eqb, leb, ltb}
 use lib.ListN.{length, getD, set, length-set}
 use Rattle.common.specs.{Pick.pick, Range.within, Width.Bytes}
-use Rattle.common.proofs.TableLaws.{pick-elim}
+use Rattle.common.proofs.{RangeLaws.below-eight, TableLaws.pick-elim}
 use Rattle.asbytes.specs.{Answer.answered, Crossed.crossed, Crossed.cycleCrossed}
 use Rattle.asbytes.specs.Machine.{headOf, benchOf, stored, saved}
 use Rattle.asbytes.specs.Places.{slotAt, countAt, lengthAt}
@@ -151,15 +151,7 @@ module _ (x : List ℕ) (w : WmAddress) (v a0 a1 a2 a3 : ℕ) (nmi : Bool) (ch u
 
   lays : (i : ℕ) → i < 8 → Lays i
   unfolding encode machineAt ioAt dmaAt boardAt channelsAt
-  lays zero h = refl
-  lays (suc zero) h = refl
-  lays (suc (suc zero)) h = refl
-  lays (suc (suc (suc zero))) h = refl
-  lays (suc (suc (suc (suc zero)))) h = refl
-  lays (suc (suc (suc (suc (suc zero))))) h = refl
-  lays (suc (suc (suc (suc (suc (suc zero)))))) h = refl
-  lays (suc (suc (suc (suc (suc (suc (suc zero))))))) h = refl
-  lays (suc (suc (suc (suc (suc (suc (suc (suc i)))))))) h = absurd (omega (arith, h))
+  lays = below-eight Lays refl refl refl refl refl refl refl refl
 
 -- old bytes laid over the entry without any
 with-olds : (m : Machine) (o : Olds) → patched (encode m noOlds) (at the.oldCount) (encOlds o) ≡ encode m o

@@ -1,5 +1,5 @@
 -- The machine's bytes that pass the tests of the way: what the machine is that they stand for.
-use Prim.Native.Nat.{ℕ, zero, suc, _+_, _-_, _%_, _≤_, _<_}
+use Prim.Native.Nat.{ℕ, suc, _+_, _-_, _%_, _≤_, _<_}
 use mathlib.Core.Bool.{true, false, _&&_, _||_, and-eq-true-iff}
 use mathlib.Core.List.{List, [], _∷_}
 use mathlib.Core.Path.{_≡_, refl, sym, ap, _∙_, subst}
@@ -10,7 +10,7 @@ use lib.Dec.{eqb, ltb}
 use lib.ListN.{length, getD}
 use lib.Seq.{length-take-le}
 use Rattle.common.specs.{Pick.pick, Width.Byte, Width.Bytes}
-use Rattle.common.proofs.AllLaws.{all-take, byte-fits}
+use Rattle.common.proofs.{AllLaws.all-take, AllLaws.byte-fits, RangeLaws.below-eight}
 use Rattle.asbytes.specs.{Machine.headOf, Places.machineSize}
 use Rattle.asbytes.proofs.Head.{head-is, same}
 use Rattle.decode.specs.Cases.{stateOf, progressOf}
@@ -156,15 +156,7 @@ channelIn s = getD (machineIn s .io .channels) (busyAt (headOf s)) noChannel
 -- a channel of an image
 channel-in : (x : List ℕ) (i : ℕ) → i < 8 → getD (channelsAt x) i noChannel ≡ channelAt x i
 unfolding channelsAt
-channel-in x zero h = refl
-channel-in x (suc zero) h = refl
-channel-in x (suc (suc zero)) h = refl
-channel-in x (suc (suc (suc zero))) h = refl
-channel-in x (suc (suc (suc (suc zero)))) h = refl
-channel-in x (suc (suc (suc (suc (suc zero))))) h = refl
-channel-in x (suc (suc (suc (suc (suc (suc zero)))))) h = refl
-channel-in x (suc (suc (suc (suc (suc (suc (suc zero))))))) h = refl
-channel-in x (suc (suc (suc (suc (suc (suc (suc (suc i)))))))) h = absurd (omega (arith, h))
+channel-in x = below-eight (λ i. getD (channelsAt x) i noChannel ≡ channelAt x i) refl refl refl refl refl refl refl refl
 
 pub channel-is : (s : List ℕ) → channelIn s ≡ channelAt (headOf s) (busyAt (headOf s))
 unfolding machineAt ioAt

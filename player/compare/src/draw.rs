@@ -1,27 +1,56 @@
 //! The calls of a run: the rows of a generated bench file one by one.
 
-use crate::Counts;
+use crate::counts::Counts;
+use crate::roms::Roms;
 use oracle::benchfile::BenchFile;
 use oracle::generator;
 use oracle::random::Random;
 use oracle::row::Row;
+use std::rc::Rc;
 
 /// A run is cut here, so that long transfers do not crowd out the rest.
 const MOST_CALLS: usize = 20_000;
 
+pub const CYCLE: Row = Row::Cycles {
+    count: 1,
+    event: 0,
+    flags: 0,
+};
+
 pub struct Rows {
     pub calls: Vec<Row>,
     pub fill: Vec<u8>,
-    pub rom: Vec<u8>,
+    pub rom: Rc<[u8]>,
     pub bit_cycles: u16,
 }
 
+/// A file's rows, half of the time with a drawn ROM in place of its own: a file has room for less than 64 KiB.
+pub fn rows(
+    random: &mut Random,
+    seed: u64,
+    run: u64,
+    roms: &Roms,
+    counts: &mut Counts,
+) -> Result<Rows, String> {
+    let mut rows = file_rows(random, seed, run, counts)?;
+    if random.once_in(2) {
+        rows.rom = roms.draw(random);
+    }
+    counts.run(rows.rom.len());
+    Ok(rows)
+}
+
 /// The file's check is compared too; a broken file gives a run of rows without any plan.
-pub fn rows(random: &mut Random, seed: u64, run: u64, counts: &mut Counts) -> Result<Rows, String> {
+fn file_rows(
+    random: &mut Random,
+    seed: u64,
+    run: u64,
+    counts: &mut Counts,
+) -> Result<Rows, String> {
     let bytes = generator::file(seed, run);
     let file = BenchFile::parse(&bytes);
     let number = player::raw::file_check(&bytes);
-    *counts.entry(("file check", number)).or_default() += 1;
+    counts.call("file check", number);
     if (number == 0) != file.is_some() || !matches!(number, 0 | 11) {
         return Err(format!("file check gives {number}"));
     }
@@ -29,13 +58,13 @@ pub fn rows(random: &mut Random, seed: u64, run: u64, counts: &mut Counts) -> Re
         Some(file) => Rows {
             calls: single(&file.rows),
             fill: file.fill,
-            rom: file.rom,
+            rom: file.rom.into(),
             bit_cycles: file.bit_cycles,
         },
         None => Rows {
             calls: (0..200).map(|_| any_row(random)).collect(),
             fill: random.bytes(7),
-            rom: random.bytes(99),
+            rom: random.bytes(99).into(),
             bit_cycles: 264,
         },
     })
@@ -45,14 +74,7 @@ fn single(rows: &[Row]) -> Vec<Row> {
     let mut calls = vec![];
     for row in rows {
         let (count, rest) = match *row {
-            Row::Cycles { count, .. } => (
-                count,
-                Row::Cycles {
-                    count: 1,
-                    event: 0,
-                    flags: 0,
-                },
-            ),
+            Row::Cycles { count, .. } => (count, CYCLE),
             Row::Back { count } => (count.min(70), *row),
             _ => (1, *row),
         };

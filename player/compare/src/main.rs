@@ -1,15 +1,18 @@
 //! The published Rust and the library in one process: random calls in every order, valid and not; after each the
 //! number, the machine, the record and what was answered are compared, and the work RAM bytes that it wrote; whole
-//! banks every 256 calls. Stops at the first difference.
+//! banks every 256 calls. ROMs that repeat and ROMs that do not are drawn. Stops at the first difference.
 //!
 //!     compare SEED COUNT
 
+mod counts;
 mod draw;
 mod pair;
+mod roms;
 
+use counts::Counts;
 use oracle::random::Random;
 use pair::Pair;
-use std::collections::BTreeMap;
+use roms::Roms;
 use std::process::ExitCode;
 
 fn main() -> ExitCode {
@@ -21,17 +24,16 @@ fn main() -> ExitCode {
         eprintln!("usage: compare SEED COUNT");
         return ExitCode::FAILURE;
     };
-    match compare(seed, count) {
-        Ok(counts) => {
-            let total: u64 = counts.values().sum();
-            println!("seed {seed}: {total} calls, no difference");
-            for ((call, number), count) in counts {
-                println!("{call} {number}: {count}");
-            }
+    let mut counts = Counts::default();
+    let done = compare(seed, count, &mut counts);
+    let total = counts.total();
+    match done {
+        Ok(()) => {
+            print!("seed {seed}: {total} calls, no difference\n{counts}");
             ExitCode::SUCCESS
         }
         Err(difference) => {
-            eprintln!("{difference}");
+            eprintln!("after {total} calls, {difference}");
             ExitCode::FAILURE
         }
     }
@@ -40,28 +42,17 @@ fn main() -> ExitCode {
 /// A word on how far it is comes after each of these.
 const MILLION: u64 = 1_000_000;
 
-/// How often each call gave each number.
-pub type Counts = BTreeMap<(&'static str, u8), u64>;
-
-fn compare(seed: u64, count: u64) -> Result<Counts, String> {
-    let mut counts = Counts::new();
+fn compare(seed: u64, count: u64, counts: &mut Counts) -> Result<(), String> {
+    // Runs count from 0, so this stream is no run's.
+    let roms = Roms::new(&mut Random::new(seed, u64::MAX));
     let mut done = 0;
     for run in 0.. {
         if done >= count {
             break;
         }
-        let mut random = Random::new(seed, run);
-        let rows = draw::rows(&mut random, seed, run, &mut counts)
-            .map_err(|what| format!("seed {seed}, run {run}: {what}"))?;
-        let mut pair = Pair::fresh(&mut random, &rows, &mut counts);
-        for (index, row) in rows.calls.iter().enumerate() {
-            let at = |what: String| format!("seed {seed}, run {run}, call {index} {row:?}: {what}");
-            pair.call(*row, &mut counts).map_err(at)?;
-            pair.disturb(&mut random, &mut counts).map_err(at)?;
-        }
-        pair.whole_banks()
-            .map_err(|what| format!("seed {seed}, run {run}, at its end: {what}"))?;
-        let now: u64 = counts.values().sum();
+        one_run(seed, run, &roms, counts)
+            .map_err(|what| format!("seed {seed}, run {run}, {what}"))?;
+        let now = counts.total();
         if now / MILLION > done / MILLION {
             eprintln!(
                 "seed {seed}: {} runs, {now} calls without a difference so far",
@@ -70,5 +61,18 @@ fn compare(seed: u64, count: u64) -> Result<Counts, String> {
         }
         done = now;
     }
-    Ok(counts)
+    Ok(())
+}
+
+fn one_run(seed: u64, run: u64, roms: &Roms, counts: &mut Counts) -> Result<(), String> {
+    let mut random = Random::new(seed, run);
+    let rows = draw::rows(&mut random, seed, run, roms, counts)?;
+    let mut pair = Pair::fresh(&mut random, &rows, roms, counts);
+    for (index, row) in rows.calls.iter().enumerate() {
+        let at = |what: String| format!("at row {index}, {what}");
+        pair.call(*row, counts).map_err(at)?;
+        pair.disturb(&mut random, counts).map_err(at)?;
+    }
+    pair.whole_banks()
+        .map_err(|what| format!("at its end: {what}"))
 }

@@ -1,12 +1,13 @@
 //! One machine twice: as the oracle has it and as the library has it, with what is lent to each.
 
-use crate::Counts;
-use crate::draw::{Rows, any_row};
+use crate::counts::Counts;
+use crate::draw::{CYCLE, Rows, any_row};
+use crate::roms::{self, Roms};
 use oracle::any_image::any_image;
 use oracle::calls::{self, Cycle};
 use oracle::image::{ENTRY_SIZE, Entry, Image, Machine};
 use oracle::layout::Field;
-use oracle::lent::{BANK_SIZE, Banks, Lent, MOST_ROM};
+use oracle::lent::{BANK_SIZE, Banks, Lent};
 use oracle::random::Random;
 use oracle::ranges::image_in_ranges;
 use oracle::row::Row;
@@ -17,11 +18,12 @@ use std::rc::Rc;
 /// Calls between two comparisons of whole banks.
 const WHOLE: u64 = 256;
 
-pub struct Pair {
+pub struct Pair<'a> {
     machine: Machine,
     banks: Banks,
     record: Vec<u8>,
     rom: Rc<[u8]>,
+    roms: &'a Roms,
     bytes: [u8; MACHINE_SIZE],
     halves: [Vec<u8>; 2],
     entries: Vec<u8>,
@@ -30,9 +32,9 @@ pub struct Pair {
     calls: u64,
 }
 
-impl Pair {
+impl<'a> Pair<'a> {
     /// Both fresh, now and then refused first.
-    pub fn fresh(random: &mut Random, rows: &Rows, counts: &mut Counts) -> Self {
+    pub fn fresh(random: &mut Random, rows: &Rows, roms: &'a Roms, counts: &mut Counts) -> Self {
         let slots = random.pick(&[1, 2, 3, 7, 20]);
         let mut bytes = [0; MACHINE_SIZE];
         for (length, cycles) in [
@@ -42,14 +44,14 @@ impl Pair {
         ] {
             let (number, machine) = calls::fresh(length, cycles.into());
             let ours = raw::fresh(&mut bytes, length as usize, cycles);
-            *counts.entry(("fresh", ours)).or_default() += 1;
+            counts.call("fresh", ours);
             assert_eq!(
                 (ours, bytes),
                 (number, machine_bytes(&machine)),
                 "fresh {length} {cycles}"
             );
             if number == 0 && length == 256 * slots {
-                return Self::around(random, rows, machine, bytes, length as usize);
+                return Self::around(random, rows, roms, machine, bytes);
             }
         }
         unreachable!("264 bit cycles are accepted")
@@ -58,9 +60,9 @@ impl Pair {
     fn around(
         random: &mut Random,
         rows: &Rows,
+        roms: &'a Roms,
         machine: Machine,
         bytes: [u8; MACHINE_SIZE],
-        length: usize,
     ) -> Self {
         let banks = Banks::filled(&rows.fill);
         let halves = [0, 1].map(|half| {
@@ -70,13 +72,14 @@ impl Pair {
                 .chain([0xA5])
                 .collect()
         });
-        let record = random.bytes(length);
-        let (entries, lengths) = (record.clone(), [BANK_SIZE, BANK_SIZE, length]);
+        let record = random.bytes(machine.record_length as usize);
+        let (entries, lengths) = (record.clone(), [BANK_SIZE, BANK_SIZE, record.len()]);
         Self {
             machine,
             banks,
             record,
-            rom: rows.rom.clone().into(),
+            rom: rows.rom.clone(),
+            roms,
             bytes,
             halves,
             entries,
@@ -88,8 +91,17 @@ impl Pair {
     /// One call on both, and everything compared.
     pub fn call(&mut self, row: Row, counts: &mut Counts) -> Result<(), String> {
         let (theirs, ours) = (self.oracle(row), self.library(row));
-        same("answers", &ours, &theirs)?;
-        *counts.entry((name(row), ours.number)).or_default() += 1;
+        self.compared(&ours, &theirs)
+            .map_err(|what| format!("{row:?} with a ROM of {} bytes: {what}", self.rom.len()))?;
+        counts.call(name(row), ours.number);
+        for (bank, addr) in ours.reads(row) {
+            counts.read(self.rom.len(), bank, addr);
+        }
+        Ok(())
+    }
+
+    fn compared(&mut self, ours: &Answer, theirs: &Answer) -> Result<(), String> {
+        same("answers", ours, theirs)?;
         same("machine", &self.bytes, &machine_bytes(&self.machine))?;
         if self.entries != self.record {
             return Err("the records differ".into());
@@ -199,7 +211,7 @@ impl Pair {
         answer
     }
 
-    /// Now and then something wrong is lent for a call, the image is changed, or a page looked at.
+    /// Now and then something wrong is lent for a call, the image is changed, or a page or the ROM looked at.
     pub fn disturb(&mut self, random: &mut Random, counts: &mut Counts) -> Result<(), String> {
         match random.between(0, 255) {
             0..4 => self.wrong_lengths(random, counts),
@@ -210,7 +222,15 @@ impl Pair {
             18..20 => (0..random.between(1, 9))
                 .try_for_each(|_| self.call(Row::Back { count: 1 }, counts)),
             20 => self.broken_record(random, counts),
-            21 => self.long_rom(random, counts),
+            21 => self.with_rom(self.roms.too_long.clone(), |pair| {
+                pair.call(any_row(random), counts)
+            }),
+            22..34 => self.with_rom(self.some_rom(random), |pair| {
+                pair.call(roms::row(random, pair.rom.len()), counts)
+            }),
+            34..36 => self.with_rom(self.some_rom(random), |pair| {
+                pair.rom_machine(random, counts)
+            }),
             _ => Ok(()),
         }
     }
@@ -262,12 +282,47 @@ impl Pair {
 
     /// Another machine within the ranges.
     fn any_machine(&mut self, random: &mut Random) -> Result<(), String> {
-        self.machine.image = any_image(random);
+        let mut image = any_image(random);
         if random.once_in(20) {
-            self.machine.image.clock = u64::MAX - random.between(0, 1);
+            image.clock = u64::MAX - random.between(0, 1);
         }
-        self.bytes = machine_bytes(&self.machine);
+        self.put(image);
         Ok(())
+    }
+
+    /// Cycles of a machine whose channels look at the ROM; then the run goes on from where it was.
+    fn rom_machine(&mut self, random: &mut Random, counts: &mut Counts) -> Result<(), String> {
+        let before = self.machine.image;
+        self.put(roms::machine(random, self.rom.len()));
+        (0..random.between(1, 40)).try_for_each(|_| self.call(CYCLE, counts))?;
+        self.put(before);
+        Ok(())
+    }
+
+    /// The run's own, or any other: each call is lent its ROM anew.
+    fn some_rom(&self, random: &mut Random) -> Rc<[u8]> {
+        if random.once_in(2) {
+            self.rom.clone()
+        } else {
+            self.roms.draw(random)
+        }
+    }
+
+    /// Calls with another ROM than the run's.
+    fn with_rom(
+        &mut self,
+        rom: Rc<[u8]>,
+        calls: impl FnOnce(&mut Self) -> Result<(), String>,
+    ) -> Result<(), String> {
+        let own = std::mem::replace(&mut self.rom, rom);
+        let answer = calls(self);
+        self.rom = own;
+        answer
+    }
+
+    fn put(&mut self, image: Image) {
+        self.machine.image = image;
+        self.bytes = machine_bytes(&self.machine);
     }
 
     /// Bytes of the newest entry changed, and a back step over it.
@@ -278,17 +333,6 @@ impl Pair {
         self.call(Row::Back { count: 1 }, counts)?;
         (self.record[place], self.entries[place]) = (old, old);
         Ok(())
-    }
-
-    fn long_rom(&mut self, random: &mut Random, counts: &mut Counts) -> Result<(), String> {
-        if !random.once_in(50) {
-            return Ok(());
-        }
-        let sound = self.rom.clone();
-        self.rom = vec![0; MOST_ROM + random.between(0, 1) as usize].into();
-        let answer = self.call(any_row(random), counts);
-        self.rom = sound;
-        answer
     }
 
     fn page(&mut self, random: &mut Random, counts: &mut Counts) -> Result<(), String> {
@@ -305,7 +349,7 @@ impl Pair {
             page,
             &mut bytes,
         );
-        *counts.entry(("page look", number)).or_default() += 1;
+        counts.call("page look", number);
         same(
             "page number",
             &number,
@@ -344,6 +388,21 @@ impl Answer {
         };
         answer.bytes[..moved.len()].copy_from_slice(moved);
         answer
+    }
+
+    /// Where an accepted call read, as the CPU or by DMA.
+    fn reads(&self, row: Row) -> Vec<(u8, u16)> {
+        match row {
+            _ if self.number != 0 => vec![],
+            Row::Read { bank, addr } => vec![(bank, addr)],
+            Row::Cycles { .. } => self.bytes[3..]
+                .chunks_exact(5)
+                .take(self.bytes[2].into())
+                .filter(|access| access[0] == 0)
+                .map(|access| (access[1], u16::from_le_bytes([access[2], access[3]])))
+                .collect(),
+            _ => vec![],
+        }
     }
 }
 

@@ -109,9 +109,12 @@ impl Work<'_> {
         if high { self.high } else { self.low }
     }
 
+    /// A ROM of a power of two from 32 KiB up repeats: the mask takes the offset modulo its length without a division.
     fn cartridge(&self, bank: u8, addr: u16) -> Option<u8> {
-        let offset = addr.checked_sub(0x8000)?;
-        self.rom.get(usize::from(bank % 128) * 0x8000 + usize::from(offset)).copied()
+        let offset = usize::from(bank % 128) * 0x8000 + usize::from(addr.checked_sub(0x8000)?);
+        let length = self.rom.len();
+        let mask = if length >= 0x8000 && length.is_power_of_two() { length - 1 } else { usize::MAX };
+        self.rom.get(offset & mask).copied()
     }
 
     fn overwrite(&mut self, high: bool, addr: u16, byte: u8) {

@@ -10,6 +10,7 @@ use std::fmt;
 mod dma;
 pub mod listed;
 mod registers;
+mod rom;
 mod script;
 
 /// Members never reached that are named in a line.

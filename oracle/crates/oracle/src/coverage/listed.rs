@@ -1,6 +1,6 @@
 //! What a list of single calls reaches.
 
-use super::{Group, dma, registers};
+use super::{Group, dma, registers, rom};
 use crate::bench::Step;
 use crate::listed::answer::Desk;
 use crate::listed::even::{BANKS, EDGES};
@@ -13,6 +13,7 @@ pub struct Reached {
     borders: Group,
     registers: registers::Registers,
     dma: dma::Transfers,
+    rom: rom::RomReads,
     pub calls: usize,
 }
 
@@ -40,11 +41,12 @@ pub fn reached(list: &[u8]) -> Result<Reached, String> {
         ),
         registers: registers::Registers::new(),
         dma: dma::Transfers::new(),
+        rom: rom::RomReads::of_calls(),
         calls: 0,
     };
     let mut desk = Desk::default();
     for call in Call::list(list)? {
-        let (number, _) = desk.answer(&call, &mut |step| reached.step(&step));
+        let (number, _) = desk.answer(&call, &mut |step| reached.step(&step, call.listed.lent_rom as usize));
         reached.call(&call.listed, number);
     }
     Ok(reached)
@@ -60,11 +62,12 @@ impl Reached {
         self.numbers.hit(format!("{} {number}", CALLS[usize::from(listed.kind)].0));
     }
 
-    fn step(&mut self, step: &Step) {
+    fn step(&mut self, step: &Step, rom: usize) {
         if step.number != 0 {
             return;
         }
         self.registers.step(step);
+        self.rom.step(step, rom);
         match step.call {
             Row::Cycles { .. } => self.dma.step(step),
             Row::Read { bank, addr } => self.borders.hit(border("read", (bank, addr))),
@@ -74,7 +77,8 @@ impl Reached {
     }
 
     fn groups(&self) -> impl Iterator<Item = &Group> {
-        [&self.numbers, &self.borders].into_iter().chain(self.registers.groups()).chain(self.dma.groups())
+        let groups = [&self.numbers, &self.borders].into_iter();
+        groups.chain(self.registers.groups()).chain(self.dma.groups()).chain([self.rom.group()])
     }
 
     /// How many members of all groups were never reached.

@@ -1,6 +1,7 @@
 //! Refused rows, the ring, controllers, events, the cartridge.
 
 use super::Group;
+use super::rom::RomReads;
 use crate::bench::Step;
 use crate::benchfile::BenchFile;
 use crate::image::Entry;
@@ -16,6 +17,7 @@ pub struct Scripts {
     events: Group,
     joypad: Group,
     cartridge: Group,
+    rom_reads: RomReads,
     rom: usize,
     went_round: bool,
     limits: Group,
@@ -50,6 +52,7 @@ impl Scripts {
             ),
             joypad: Group::new("controllers", joypad_members()),
             cartridge: Group::new("cartridge reads", borders.chain(["$6000, 8".into(), "$7FFF, 8".into()])),
+            rom_reads: RomReads::of_files(),
             rom: 0,
             went_round: false,
             limits: Group::new(
@@ -88,6 +91,7 @@ impl Scripts {
             let call = ["cycles", "read", "write", "pad", "plug", "answer", "back"][usize::from(step.call.kind()) - 1];
             return self.refused.hit(format!("{call} {}", step.number));
         }
+        self.rom_reads.step(step, self.rom);
         match step.call {
             Row::Cycles { event, flags, .. } => self.cycle(step, event, flags),
             Row::Read { bank, addr } => self.read(step, bank, addr),
@@ -160,8 +164,9 @@ impl Scripts {
         self.cartridge.hit(format!("${addr:04X}, {cost}"));
     }
 
-    pub fn groups(&self) -> [&Group; 6] {
-        [&self.refused, &self.ring, &self.events, &self.joypad, &self.cartridge, &self.limits]
+    pub fn groups(&self) -> [&Group; 7] {
+        let rom = self.rom_reads.group();
+        [&self.refused, &self.ring, &self.events, &self.joypad, &self.cartridge, rom, &self.limits]
     }
 }
 

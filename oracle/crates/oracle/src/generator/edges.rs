@@ -1,7 +1,8 @@
 //! Scripts at the edges: refused rows, the ring, the cartridge, the file's own limits.
 
+use super::hdma::table;
 use super::registers::{ram_access, registers};
-use super::script::Script;
+use super::script::{Script, Setup};
 use crate::benchfile::{CONTENTS, MOST_FILE, MOST_FILL};
 use crate::row::{ROW_SIZE, Row};
 
@@ -50,10 +51,12 @@ pub fn ring(script: &mut Script) {
     script.read(0x2180);
 }
 
-/// ROM lengths around the 32 KiB steps, read around their ends from both halves of the banks.
+/// ROM lengths around the 32 KiB steps, read around their ends in all banks. 32,768 comes up more often, because no
+/// other ROM that repeats fits into a file.
 pub fn borders(script: &mut Script) {
     let any = script.random.between(0, 60_000);
-    let length = script.random.pick(&[0, 1, 255, 32_767, 32_768, 32_769, 40_000, 60_000, any]);
+    let lengths = [0, 1, 255, 16_384, 32_767, 32_768, 32_768, 32_768, 32_769, 49_152, 60_000, any];
+    let length = script.random.pick(&lengths);
     script.file.rom = script.random.bytes(length as usize);
     for _ in 0..script.random.between(20, 80) {
         let memsel = script.random.byte();
@@ -63,34 +66,70 @@ pub fn borders(script: &mut Script) {
         script.row(if byte & 7 == 0 { Row::Write { bank, addr, byte } } else { Row::Read { bank, addr } });
     }
     rom_transfer(script);
+    rom_table(script);
 }
 
-/// An address at a border, in a bank of either half.
+/// An address at a border, in a bank of either half; at the ROM's end also in banks where it may repeat.
 fn border(script: &mut Script, length: u64) -> (u8, u16) {
     let half = script.random.byte() & 0x80;
     let step = script.random.between(0, 2);
     let offset = (length + step).saturating_sub(1);
-    match script.random.between(0, 5) {
+    let end = 0x8000 | (offset % 0x8000) as u16;
+    match script.random.between(0, 7) {
         0 => (script.random.byte(), script.random.pick(&[0x5FFF, 0x6000, 0x7FFF, 0x8000, 0xFFFF])),
         1 => {
             (script.random.pick(&[0x3F, 0x40, 0x7D, 0x7E, 0x7F, 0x80, 0xBF, 0xC0, 0xFF]), 0x8000 | script.random.two())
         }
         2 => (half | (script.random.byte() % 3), 0x8000 | script.random.two()),
-        _ => (half | (offset / 0x8000) as u8, 0x8000 | (offset % 0x8000) as u16),
+        3 | 4 => (cartridge_bank(script), end),
+        _ => (half | (offset / 0x8000) as u8, end),
     }
 }
 
+/// Any bank that reaches the cartridge: all but $7E and $7F.
+fn cartridge_bank(script: &mut Script) -> u8 {
+    let bank = script.random.byte();
+    if matches!(bank, 0x7E | 0x7F) { bank | 0x80 } else { bank }
+}
+
+/// A general transfer from the ROM's first bank or any other into work RAM, read there afterwards.
 fn rom_transfer(script: &mut Script) {
-    let bank = script.random.pick(&[0, 1, 0x40, 0x80, 0x81]);
-    let addr = script.random.pick(&[0x7FFE, 0x8000, 0xFFFE]);
-    script.wmadd();
-    script.write(0x4300, 0);
-    script.write(0x4301, 0x80);
-    script.write_word(0x4302, addr);
-    script.write(0x4304, bank);
-    script.write_word(0x4305, 6);
+    let any = cartridge_bank(script);
+    let bank = script.random.pick(&[0, 1, 0x40, 0x80, 0x81, any, any, any]);
+    let addr = script.random.pick(&[0x7FFE, 0x8000, 0xBFFE, 0xFFFE]);
+    let place = script.random.two();
+    point(script, place);
+    script.channel(0, &Setup { dmap: 0, bbad: 0x80, bank, addr, das: 6, dasb: 0 });
     script.write(0x420B, 1);
     script.cycles(80);
+    point(script, place);
+    (0..6).for_each(|_| script.read(0x2180));
+}
+
+/// HDMA from a small table at the ROM's start or end, shown by any bank, into work RAM, read there afterwards.
+fn rom_table(script: &mut Script) {
+    let end = script.file.rom.len().saturating_sub(8);
+    let at = script.random.pick(&[0, end]);
+    let table = table(script, 8);
+    script.file.rom[at..].iter_mut().zip(table).for_each(|(place, byte)| *place = byte);
+    let (any, dasb) = (cartridge_bank(script), cartridge_bank(script));
+    let bank = script.random.pick(&[(at / 0x8000) as u8, any, any]);
+    let dmap = script.random.pick(&[0x00, 0x02, 0x40, 0x42]);
+    let place = script.random.two();
+    point(script, place);
+    script.channel(0, &Setup { dmap, bbad: 0x80, bank, addr: 0x8000 | (at % 0x8000) as u16, das: 0, dasb });
+    script.write(0x420C, 1);
+    script.event(60, 4, 0);
+    (0..12).for_each(|_| script.event(60, 1, 1));
+    (5..10).for_each(|offset| script.read(0x4300 + offset));
+    point(script, place);
+    (0..16).for_each(|_| script.read(0x2180));
+}
+
+/// Points $2180 at a place of bank $7E.
+fn point(script: &mut Script, addr: u16) {
+    script.write_word(0x2181, addr);
+    script.write(0x2183, 0);
 }
 
 /// Sound files at the limits of their form; bit cycles at and past theirs.

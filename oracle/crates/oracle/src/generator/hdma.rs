@@ -4,17 +4,20 @@ use super::script::{Script, Setup};
 
 const COUNTERS: [u8; 12] = [0, 1, 1, 2, 3, 5, 0x7F, 0x80, 0x81, 0x82, 0x85, 0xFF];
 
-/// A fill of table-like bytes: counters of note with data between.
 fn table_fill(script: &mut Script) {
     let groups = script.random.between(20, 300);
-    script.file.fill.clear();
+    script.file.fill = table(script, groups);
+}
+
+/// Table-like bytes: counters of note with data between.
+pub fn table(script: &mut Script, groups: u64) -> Vec<u8> {
+    let mut bytes = vec![];
     for _ in 0..groups {
-        let counter = script.random.pick(&COUNTERS);
-        script.file.fill.push(counter);
+        bytes.push(script.random.pick(&COUNTERS));
         let data = script.random.between(0, 4) as usize;
-        let data = script.random.bytes(data);
-        script.file.fill.extend(data);
+        bytes.extend(script.random.bytes(data));
     }
+    bytes
 }
 
 /// A channel whose table is in work RAM, now and then elsewhere.

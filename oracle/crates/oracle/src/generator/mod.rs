@@ -55,7 +55,11 @@ pub const KINDS: [Kind; 18] = [
     Kind { name: "manualjoy", about: "latch and clock by $4016 and $4017", write: joypad::manual },
     Kind { name: "refused", about: "rows refused by their calls (5, 6, 8)", write: edges::refused },
     Kind { name: "ring", about: "records that go round, back steps up to and past the oldest", write: edges::ring },
-    Kind { name: "borders", about: "ROM lengths and cartridge borders at both speeds", write: edges::borders },
+    Kind {
+        name: "borders",
+        about: "ROM lengths that repeat and that do not, cartridge borders at both speeds",
+        write: edges::borders,
+    },
     Kind {
         name: "limits",
         about: "sound files at the limits of their form, bit cycles in and out of range",

@@ -32,25 +32,31 @@ pub fn picks(lot: &mut Lot) -> Call {
 
 /// A transfer, general or HDMA, that writes registers of DMA: its own channel's, the enables, WMADD.
 pub fn rewrites(lot: &mut Lot) -> Call {
+    let (number, hdma) = (lot.random.byte() % 8, lot.random.once_in(2));
+    let target = 0x4300 + 0x10 * u16::from(number) + lot.random.two() % 12;
+    let target = lot.random.pick(&[target, target, target, 0x4209, 0x420A, 0x420B, 0x420C, 0x2181, 0x1FFD, 0x1FFE]);
+    let (way, bbad) = if lot.random.once_in(4) {
+        (0x00, 0x80 + target as u8 % 4)
+    } else {
+        (0x80, lot.random.pick(&[0x34, 0x40, 0x80]))
+    };
+    rewrite(lot, number, hdma, target, (way, bbad))
+}
+
+/// A channel's transfer between an A side address in a system bank and a B side, one way or the other.
+pub fn rewrite(lot: &mut Lot, number: u8, hdma: bool, target: u16, (way, bbad): (u8, u8)) -> Call {
     let mut listed = lot.machine();
-    let (number, hdma) = (lot.random.byte() % 8, lot.random.byte() % 2);
     let dma = &mut listed.image.dma;
-    (dma.state, dma.wait, dma.running, dma.pending, dma.init) = (2 + hdma, 0, 1, 0, 0);
+    (dma.state, dma.wait, dma.running, dma.pending, dma.init) = (2 + u8::from(hdma), 0, 1, 0, 0);
     (dma.present, dma.channel, dma.unit) = (1, number, lot.random.pick(&[dma.unit, 0, 65_535]));
     dma.queue = (0xFF << number) & (lot.random.byte() | 1 << number);
     let line = &mut listed.image.lines[usize::from(number)];
     (line.finished, line.counter, line.do_transfer) = (0, line.counter | 1, 1);
-    let own = 0x4300 + 0x10 * u16::from(number);
-    let target = own + lot.random.two() % 12;
-    let target = lot.random.pick(&[target, target, target, 0x4209, 0x420A, 0x420B, 0x420C, 0x2181, 0x1FFD, 0x1FFE]);
     let bank = lot.system_bank();
     let channel = &mut listed.image.channels[usize::from(number)];
-    (channel.dmap, channel.bbad) = (channel.dmap | 0x80, lot.random.pick(&[0x34, 0x40, 0x80]));
-    if lot.random.once_in(4) {
-        (channel.dmap, channel.bbad) = (channel.dmap & 0x7F, 0x80 + target as u8 % 4);
-    }
+    (channel.dmap, channel.bbad) = (channel.dmap & 0x7F | way, bbad);
     (channel.a1t_bank, channel.dasb, channel.a1t_addr, channel.a2a) = (bank, bank, target, target);
-    channel.das = if hdma == 0 { lot.random.pick(&[0, 1, 1, 2]) } else { target };
+    channel.das = if hdma { target } else { lot.random.pick(&[0, 1, 1, 2]) };
     listed.call(Row::Cycles { count: 1, event: 0, flags: 0 })
 }
 

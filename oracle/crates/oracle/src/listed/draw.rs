@@ -1,7 +1,7 @@
 //! The list of a seed: first the draws that leave nothing out, then draws at random and calls of runs in turn.
 
 use super::lot::Lot;
-use super::{Call, aimed, even, refused, runs};
+use super::{Call, aimed, cartridge, even, refused, runs};
 use crate::random::Random;
 
 const AIMED: [fn(&mut Lot) -> Call; 13] = [
@@ -28,7 +28,16 @@ pub fn list(seed: u64, count: u64) -> Vec<u8> {
 fn calls(seed: u64, count: usize) -> Vec<Call> {
     let mut lot = Lot { random: Random::new(seed, 0) };
     let mut calls = vec![];
-    let all = [even::registers, even::borders, even::data_port, even::general, even::hdma, refused::each];
+    let all = [
+        even::registers,
+        even::borders,
+        even::data_port,
+        even::general,
+        even::hdma,
+        even::own_registers,
+        cartridge::lengths,
+        refused::each,
+    ];
     all.iter().for_each(|draw| draw(&mut lot, &mut calls));
     for round in 0.. {
         if calls.len() >= count {

@@ -1,12 +1,14 @@
-//! Draws that leave nothing out: every register, every border of the map, every B address, every case of an HDMA line.
+//! Draws that leave nothing out: every register, every border of the map, every B address, every case of an HDMA line,
+//! every register that a transfer can rewrite in its own channel.
 
 use super::Call;
+use super::aimed::rewrite;
 use super::lot::Lot;
 use crate::row::Row;
 use rsnes::dma::Dma;
 
-const DMA: u8 = 2;
-const HDMA: u8 = 3;
+pub const DMA: u8 = 2;
+pub const HDMA: u8 = 3;
 
 /// First and last addresses of the ranges in which the bus and the registers decide alike.
 pub const EDGES: [u16; 28] = [
@@ -141,4 +143,15 @@ fn hdma_call(lot: &mut Lot, line: Line, dmap: u8, number: u8) -> Call {
     let behind = [lot.random.byte(), lot.random.byte()];
     listed.patch(&[(place, first), (place + 1, behind[0]), (place + 2, behind[1])]);
     listed.call(Row::Cycles { count: 1, event: 0, flags: 0 })
+}
+
+/// A transfer, general or HDMA, over each register of its own channel.
+pub fn own_registers(lot: &mut Lot, calls: &mut Vec<Call>) {
+    for hdma in [false, true] {
+        for offset in 0..12 {
+            let (number, bbad) = (lot.random.byte() % 8, lot.random.pick(&[0x34, 0x40, 0x80]));
+            let target = 0x4300 + 0x10 * u16::from(number) + offset;
+            calls.push(rewrite(lot, number, hdma, target, (0x80, bbad)));
+        }
+    }
 }

@@ -7,8 +7,9 @@ use crate::lent::BANK_SIZE;
 use crate::random::Random;
 use crate::row::Row;
 
-/// ROM lengths that a sound call may be lent.
-const ROMS: [u32; 6] = [0, 1, 0x7FFF, 0x8000, 0x18001, 4_194_304];
+/// ROM lengths that a sound call may be lent: some that repeat, and others.
+const ROMS: [u32; 13] =
+    [0, 1, 0x4000, 0x7FFF, 0x8000, 0x8001, 0xC000, 0x1_0000, 0x1_8000, 0x1_8001, 0x4_0000, 0x20_0000, 0x40_0000];
 /// Bytes of note in an HDMA table, for fills.
 const COUNTERS: [u8; 6] = [0, 1, 2, 0x80, 0x81, 0xFF];
 

@@ -3,6 +3,7 @@
 
 mod aimed;
 pub mod answer;
+mod cartridge;
 pub mod draw;
 pub mod even;
 mod lot;

@@ -43,7 +43,7 @@ ioWritten io Cartridge a v = io
 abbrev pub gave : Io → ℕ → IoRead
 gave io v = record { io = io; byte = v }
 
--- a read gives the byte that work RAM holds, a register's or the cartridge's; past the ROM the open bus
+-- a read gives the byte that work RAM holds, a register's or the cartridge's; where no chip answers, the open bus
 unfoldable pub registerRead : List ℕ → Io → Route → ℕ → ℕ → ℕ → IoRead
 registerRead rom io Bank7E b a v = gave io v
 registerRead rom io Bank7F b a v = gave io v

@@ -19,10 +19,13 @@ repeating = 32768 ∷ 65536 ∷ 131072 ∷ 262144 ∷ 524288 ∷ 1048576 ∷ 209
 unfoldable pub romPlace : ℕ → ℕ → ℕ
 romPlace n i = pick (among repeating n) (i % n) i
 
--- the byte there, and d where no chip answers
+-- the byte at a place, and d at or past the end
+abbrev pub romAt : List ℕ → ℕ → ℕ → ℕ
+romAt rom i d = pick (ltb i (length rom)) (getD rom i 0) d
+
+-- what an address reads; d where no chip answers
 abbrev pub romByte : List ℕ → ℕ → ℕ → ℕ → ℕ
-romByte rom b a d =
-    pick (ltb a 0x8000) d (pick (ltb (romPlace (length rom) (romOffset b a)) (length rom)) (getD rom (romPlace (length rom) (romOffset b a)) 0) d)
+romByte rom b a d = pick (ltb a 0x8000) d (romAt rom (romPlace (length rom) (romOffset b a)) d)
 
 -- 6 for $8000 up in banks $80-$FF with MEMSEL bit 0 set, else 8
 abbrev pub romCost : ℕ → ℕ → ℕ → ℕ

@@ -4,7 +4,7 @@ ghost use mathlib.Core.Path.{_≡_};
 ghost use denote.Ref.{now};
 ghost use Rattle.cartridge.specs.Cartridge.{romOffset, romPlace, romByte, romCost};
 
-// An address from $8000 up as an offset into a ROM of the longest kind.
+// The offset of an address from $8000 up, as in a ROM that fills all banks.
 fn offset(bank: u8, addr: u16) -> usize
     ensures { λ r. ⌜ r ≡ romOffset bank addr ⌝ }
 {

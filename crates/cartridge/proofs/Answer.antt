@@ -1,22 +1,17 @@
 -- Where an offset lies in the ROM, and what the cartridge answers from $8000 up, inside the ROM and past its end.
 use Prim.Native.Nat.{ℕ, _≤_, _<_}
-use mathlib.Core.Bool.{false}
-use mathlib.Core.List.{List, [], _∷_}
-use mathlib.Core.Path.{_≡_, refl}
+use mathlib.Core.List.{List}
+use mathlib.Core.Path.{_≡_}
 use lib.ListN.{length, getD}
-use borrow.Author.Tests.{ne-eqb, le-ltb, lt-ltb}
-use Rattle.common.specs.{All.AllOf, Table.among}
+use borrow.Author.Tests.{le-ltb, lt-ltb}
+use Rattle.common.specs.All.{AllOf}
+use Rattle.common.proofs.TableLaws.{not-among}
 use Rattle.cartridge.specs.Cartridge.{romOffset, repeating, romPlace, romByte}
-
--- a number that is none of the keys
-none : (ks : List ℕ) (n : ℕ) → AllOf (λ (k : ℕ). n ≡ k → ⊥) ks → among ks n ≡ false
-none [] n h = refl
-none (k ∷ ks) n h = rw (ne-eqb n k (h .0)) (none ks n (h .1))
 
 -- a ROM of a length that does not repeat keeps the offset
 pub once : (n i : ℕ) → AllOf (λ (k : ℕ). n ≡ k → ⊥) repeating → i ≡ romPlace n i
 unfolding romPlace
-once n i h = rw (none repeating n h)
+once n i h = rw (not-among repeating n h)
 
 module _ (rom : List ℕ) {j i : ℕ} (b a d : ℕ) (up : 0x8000 ≤ a) (off : j ≡ romOffset b a) (at : i ≡ romPlace (length rom) j) where
   pub found : i < length rom → getD rom i 0 ≡ romByte rom b a d

@@ -32,9 +32,11 @@ module _ (rom : List ℕ) (j : ℕ) (small : j < 8) (long : length rom ≡ 32768
   bank : b % 128 % 2 ^ j ≡ b % 2 ^ j
   bank = let e : 7 - j + j ≡ 7 = omega (arith, small) in rw e at (mod-mod-pow b (7 - j) j)
 
+  part : a - 0x8000 < 32768
+  part = omega arith
+
   place : romPlace (length rom) (romOffset b a) ≡ placed
   place =
-      let part : a - 0x8000 < 2 ^ 15 = omega arith in
       let n : length rom ≡ 2 ^ (j + 15) = long ∙ omega (arith, pow-add 2 j 15) in
       ap (λ (k : ℕ). romPlace k (romOffset b a)) n ∙ power-wraps j (romOffset b a) small ∙ mod-pow-add (romOffset b a) j 15
       ∙ (λ i. high (b % 128) 15 part i % 2 ^ j * 32768 + low (b % 128) 15 part i) ∙ ap (λ (k : ℕ). k * 32768 + (a - 0x8000)) bank
@@ -42,7 +44,6 @@ module _ (rom : List ℕ) (j : ℕ) (small : j < 8) (long : length rom ≡ 32768
   pub inside : placed < length rom
   inside =
       let banks : b % 2 ^ j < 2 ^ j = mod-lt b (pow-pos j) in
-      let part : a - 0x8000 < 32768 = omega arith in
       omega (arith, digits-lt banks part, long)
 
   -- it answers with its byte there, whatever the open bus holds

@@ -1,4 +1,4 @@
-"""A program of this repository beside the oracle, for `compare` and `moves`: how both are run, and how a file that shows a difference is made small.
+"""A program of this repository beside the oracle, for `compare`, `moves` and `sums`: how both run, and how a differing file is made small.
 
 Programs are target/bin/NAME (`rt check NAME` makes one), the oracle is target/release/oracle (`cargo build --release` in this folder).
 """

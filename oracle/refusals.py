@@ -1,5 +1,7 @@
 #!/usr/bin/env -S python3 -B
-"""The tries of the program refusals, and the lines expected of it, from document 01's table; nothing here looks at the program or its output.
+"""The tries of the program refusals, and the lines expected of it, from document 01's table with document 02's request 2 (the sum).
+
+Nothing here looks at the program or its output.
 
     python3 oracle/refusals.py list > crates/refusals/stdin
     python3 oracle/refusals.py > crates/refusals/stdout
@@ -10,13 +12,15 @@ the end of its line.
 import sys
 
 M = 2**64
+# the sum of both banks as tries lend them: every byte $A5, but for the first of $7F, which is $5A
+SUM = 131072 * 0xA5 - 0xA5 + 0x5A
 CALLS = ["cycle", "read", "write", "pad", "plug", "answer", "back"]
 WORDS = {
     0: "all in order ", 1: "low bank of ", 2: "high bank of ", 3: "record as fresh's, of ", 4: "record of 256, fresh's of ",
     5: "record of 512, fresh's of ", 6: "ROM of ", 7: "capacity 2, next slot ", 8: "capacity 2, kept ", 9: "bit cycles ",
     10: "pending countdown ", 11: "reading bits ", 12: "bit cycles 264, reading countdown ", 13: "buttons of port 0 ",
     14: "buttons of port 1 ", 15: "pad word of port 0 ", 16: "pad word of port 1 ", 17: "channel ", 18: "wait ", 19: "clock ",
-    20: "bad in all numbers up to 6 from ", 21: "event ", 22: f"clock {M - 1}, event ", 23: "port ", 24: "address $",
+    20: "bad in all numbers up to 6 from ", 21: "event ", 22: f"clock {M - 1}, event ", 23: "port ", 24: "address $", 25: "sum ",
 }
 # what each try of an operation or of back is about, and its value
 TRIES = [
@@ -25,6 +29,7 @@ TRIES = [
     (18, 55), (18, 56), (10, 297), (10, 298), (11, 0), (11, 1), (11, 16), (11, 17), (12, 263), (12, 264), (13, 65520), (13, 65528),
     (14, 65520), (14, 65521), (15, 65520), (15, 65528), (16, 65520), (16, 65521), (19, M - 2), (19, M - 1), (20, 1), (20, 2), (20, 3),
     (20, 4), (21, 4), (21, 5), (22, 5), (23, 1), (23, 2), (24, 0x2133), (24, 0x2134), (24, 0x213F), (24, 0x2140), (24, 0x2143), (24, 0x2144),
+    (25, 0), (25, 2**32 - 1),
 ]
 
 
@@ -48,9 +53,10 @@ def asked(call, about):
 def state(about, value):
     """All that a call is given: everything in order, but for what the try is about."""
     s = {"low": 65536, "high": 65536, "record": 512, "fresh": 512, "rom": 0, "slot": 0, "kept": 2, "bits": 264, "auto": (0, 0, 0),
-         "words": [0, 0, 0, 0], "channel": None, "wait": 0, "clock": 0, "event": 0, "port": 0, "addr": 0x2134}
+         "words": [0, 0, 0, 0], "channel": None, "wait": 0, "clock": 0, "event": 0, "port": 0, "addr": 0x2134,
+         "sum": SUM}
     named = {1: "low", 2: "high", 6: "rom", 7: "slot", 8: "kept", 9: "bits", 17: "channel", 18: "wait", 19: "clock", 21: "event", 22: "event",
-             23: "port", 24: "addr"}
+             23: "port", 24: "addr", 25: "sum"}
     if about in named:
         s[named[about]] = value
     if about == 3:
@@ -86,7 +92,10 @@ def in_range(s):
 
 
 def number(call, s):
-    """Document 01's table, in number order, each call testing what it takes. The newest entry is sound here, so never 9."""
+    """Document 01's table, in number order, each call testing what it takes; none tests the sum.
+
+    The newest entry is sound here, so never 9.
+    """
     capacity = s["fresh"] // 256
     if s["low"] != 65536 or s["high"] != 65536:
         return 1
@@ -133,14 +142,19 @@ def image(s):
     return e[:222]
 
 
+def machine(s):
+    """The machine as the library has it: the image, 34 zeros, next slot, kept, record length and the sum."""
+    return image(s) + bytes(34) + b"".join(little(s[name], 8) for name in ("slot", "kept", "fresh")) + little(s["sum"], 4)
+
+
 def listed(call, s, newest):
     """The bytes of a listed call: every byte of both banks is $A5, but for the first of $7F, so that an exchange of the banks would show.
     Behind a back step stands the newest entry."""
     slot = (s["slot"] - 1) % max(s["fresh"] // 256, 1)
     first, word, last = {"cycle": (s["event"], 0, 3), "read": (0x7E, 0x1234, 0), "write": (0x7E, 0x1234, 0), "pad": (s["port"], 0x8000, 0),
                          "plug": (s["port"], 0, 0), "answer": (0, s["addr"], 7), "back": (slot, 0, 0)}[call]
-    counts = [s[name] for name in ("slot", "kept", "fresh", "record", "low", "high", "rom")]
-    head = image(s) + b"".join(little(n, 4) for n in counts) + bytes([CALLS.index(call) + 1, first]) + little(word, 2)
+    lent = b"".join(little(s[name], 4) for name in ("record", "low", "high", "rom"))
+    head = machine(s) + lent + bytes([CALLS.index(call) + 1, first]) + little(word, 2)
     head += bytes([last, 1] + [0xA5] * 16) + little(0xA5000000, 4) * 7 + little(0x5A010000, 4)
     return head + (newest if call == "back" else b"")
 
@@ -158,11 +172,21 @@ def operations():
                 yield 0, words, listed(call, s, power_on()), ended(number(call, s))
 
 
+# what fresh is given: the lengths of both banks, record length, bit cycles
+FRESH = ([(65536, 65536, length, bits) for length, bits in
+          [(0, 264), (255, 264), (256, 264), (257, 264), (512, 264), (512, 0), (512, 1), (512, 4096), (512, 4097), (255, 0)]]
+         + [(low, high, 512, 264) for low, high in [(65535, 65536), (65537, 65536), (65536, 65535), (65536, 65537), (0, 0)]]
+         + [(65535, 65536, 255, 0), (65536, 65537, 512, 4097)])
+
+
 def fresh():
-    for length, bits in [(0, 264), (255, 264), (256, 264), (257, 264), (512, 264), (512, 0), (512, 1), (512, 4096), (512, 4097), (255, 0)]:
-        n = 2 if length == 0 or length % 256 else 10 if not 1 <= bits <= 4096 else 0
-        end = f": {n}, bit cycles {1 if n else bits}, record length {0 if n else length}, slot 0, kept 0\n"
-        yield 1, f"fresh, record of {length}, bit cycles {bits}", little(length, 4) + little(bits, 2), end
+    """The numbers of fresh, in their order: 1, 2, 10. If it is refused, its sum is 0."""
+    for low, high, length, bits in FRESH:
+        n = 1 if (low, high) != (65536, 65536) else 2 if length == 0 or length % 256 else 10 if not 1 <= bits <= 4096 else 0
+        words = f"fresh, banks of {low} and {high}, record of {length}, bit cycles {bits}"
+        given = little(low, 4) + little(high, 4) + little(length, 4) + little(bits, 2)
+        bits, length, total = (1, 0, 0) if n else (bits, length, SUM)
+        yield 1, words, given, f": {n}, bit cycles {bits}, record length {length}, slot 0, kept 0, sum {total}\n"
 
 
 # bytes of the newest entry, each with its place

@@ -1,10 +1,11 @@
 //! A general transfer of four bytes from work RAM to $2118, watched access by access, then taken back.
 
-use player::{Event, Machine, Refusal};
+use cloverwain::{BANK_SIZE, Event, Machine, Refusal};
 
 fn main() -> Result<(), Refusal> {
-    let mut machine = Machine::fresh(256, 264, vec![])?;
-    machine.banks_mut()[0][0x10..0x14].copy_from_slice(&[0xDE, 0xAD, 0xBE, 0xEF]);
+    let (mut low, high) = (vec![0; BANK_SIZE], vec![0; BANK_SIZE]);
+    low[0x10..0x14].copy_from_slice(&[0xDE, 0xAD, 0xBE, 0xEF]);
+    let mut machine = Machine::fresh(low, high, 256, 264, vec![])?;
     let setup = [
         (0x4300, 1),
         (0x4301, 0x18),

@@ -3,24 +3,26 @@
 //! every input; this crate lends it memory and names its answers.
 //!
 //! ```
-//! use player::{Event, Machine};
+//! use cloverwain::{Event, Machine};
 //!
-//! let mut machine = Machine::fresh(64, 264, vec![])?;
+//! let mut machine = Machine::filled(&[0], 64, 264, vec![])?;
 //! machine.write(0x7E, 0x1234, 0x5A)?;
 //! assert_eq!(machine.read(0x00, 0x1234)?.byte, 0x5A);
+//! assert_eq!(machine.ram_sum(), 0x5A);
 //! let cycle = machine.cycle(Event::VBlankStart, false, false)?;
 //! assert!(!cycle.held);
 //! machine.back()?; // the cycle is undone
-//! # Ok::<(), player::Refusal>(())
+//! # Ok::<(), cloverwain::Refusal>(())
 //! ```
 
 pub mod raw;
 mod refusal;
 
-use raw::{ANSWER_SIZE, Lent, MACHINE_SIZE};
+use raw::{ANSWER_SIZE, KEPT, Lent, MACHINE_SIZE, SUM};
 pub use refusal::Refusal;
 
-const BANK_SIZE: usize = 65_536;
+/// Bytes of a work RAM bank.
+pub const BANK_SIZE: usize = 65_536;
 const ENTRY_SIZE: usize = 256;
 const PAGE_SIZE: usize = 256;
 
@@ -75,7 +77,7 @@ pub struct Read {
     pub cost: u8,
 }
 
-/// A machine with its work RAM, its record and its ROM.
+/// A machine with its work RAM, its record and its ROM. Only its calls write to work RAM, so its sum stays true.
 #[derive(Clone)]
 pub struct Machine {
     bytes: [u8; MACHINE_SIZE],
@@ -87,22 +89,51 @@ pub struct Machine {
 }
 
 impl Machine {
-    /// A machine at power-on whose record keeps `slots` operations, with work RAM at zeros. `bit_cycles` is how long
-    /// the automatic joypad read takes for a bit (264 on the console). `rom` repeats where its length is a power of two
-    /// of at least 32,768; any other is silent past its end.
-    pub fn fresh(slots: usize, bit_cycles: u16, rom: Vec<u8>) -> Result<Self, Refusal> {
-        let length = slots.checked_mul(ENTRY_SIZE).ok_or(Refusal::RecordLength)?;
+    /// A machine at power-on over its work RAM, the banks $7E and $7F of [`BANK_SIZE`] bytes each, whose record keeps
+    /// `slots` operations. `bit_cycles` is how long the automatic joypad read takes for a bit (264 on the console).
+    /// `rom` repeats where its length is a power of two of at least 32,768; any other is silent past its end.
+    ///
+    /// ```
+    /// use cloverwain::{BANK_SIZE, Machine, Refusal};
+    ///
+    /// let (low, high) = (vec![1; BANK_SIZE], vec![2; BANK_SIZE]);
+    /// let machine = Machine::fresh(low, high, 64, 264, vec![])?;
+    /// assert_eq!(machine.ram_sum(), 3 * 65_536);
+    /// let short = Machine::fresh(vec![1; 100], vec![2; BANK_SIZE], 64, 264, vec![]);
+    /// assert_eq!(short.err(), Some(Refusal::BankLength));
+    /// # Ok::<(), Refusal>(())
+    /// ```
+    pub fn fresh(
+        low: Vec<u8>,
+        high: Vec<u8>,
+        slots: usize,
+        bit_cycles: u16,
+        rom: Vec<u8>,
+    ) -> Result<Self, Refusal> {
+        // A length past the last number is refused as 0 is, and like it after the banks.
+        let length = slots.checked_mul(ENTRY_SIZE).unwrap_or(0);
         let mut bytes = [0; MACHINE_SIZE];
-        Refusal::check(raw::fresh(&mut bytes, length, bit_cycles))?;
-        let bank = || vec![0; BANK_SIZE].into();
+        Refusal::check(raw::fresh(&mut bytes, &low, &high, length, bit_cycles))?;
         Ok(Self {
             bytes,
-            low: bank(),
-            high: bank(),
+            low: low.into(),
+            high: high.into(),
             record: vec![0; length].into(),
             rom: rom.into(),
             answer: [0; ANSWER_SIZE],
         })
+    }
+
+    /// The same with a fill that is repeated from the start of each bank, as a bench file's is. An empty one fills no
+    /// bank, and so is refused by 1.
+    pub fn filled(
+        fill: &[u8],
+        slots: usize,
+        bit_cycles: u16,
+        rom: Vec<u8>,
+    ) -> Result<Self, Refusal> {
+        let bank: Vec<u8> = fill.iter().copied().cycle().take(BANK_SIZE).collect();
+        Self::fresh(bank.clone(), bank, slots, bit_cycles, rom)
     }
 
     /// All that a call is lent, and the buffer for a cycle's answer.
@@ -194,14 +225,23 @@ impl Machine {
         Ok(&bank[usize::from(page) * PAGE_SIZE..][..PAGE_SIZE])
     }
 
-    /// Both work RAM banks, to be filled before a run.
-    pub fn banks_mut(&mut self) -> [&mut [u8]; 2] {
-        [&mut self.low, &mut self.high]
+    /// Both work RAM banks, $7E and $7F. A byte is changed by [`Machine::write`], which keeps the sum.
+    pub fn banks(&self) -> [&[u8]; 2] {
+        [&self.low, &self.high]
+    }
+
+    /// The sum of all work RAM bytes, modulo 2^32. It stands with the machine, so nothing is added up here.
+    pub fn ram_sum(&self) -> u32 {
+        u32::from_le_bytes(self.bytes_at(SUM))
     }
 
     /// How many operations can be taken back.
     pub fn kept(&self) -> u64 {
-        u64::from_le_bytes(self.bytes[264..272].try_into().expect("eight bytes"))
+        u64::from_le_bytes(self.bytes_at(KEPT))
+    }
+
+    fn bytes_at<const N: usize>(&self, place: usize) -> [u8; N] {
+        std::array::from_fn(|index| self.bytes[place + index])
     }
 
     /// The machine's bytes, as docs/PLAYER.md has them.

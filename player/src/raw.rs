@@ -2,8 +2,14 @@
 //!
 //! docs/PLAYER.md has the places of the machine's bytes. [`crate::Machine`] is the interface for everyday use.
 
-/// Bytes of a machine: image, 34 zeros, next slot, kept, record length.
-pub const MACHINE_SIZE: usize = 280;
+/// Bytes of a machine: image, 34 zeros, next slot, kept, record length, sum.
+pub const MACHINE_SIZE: usize = 284;
+/// Where its next slot stands: 8 bytes, lowest first, as kept and record length.
+pub const NEXT_SLOT: usize = 256;
+pub const KEPT: usize = 264;
+pub const RECORD_LENGTH: usize = 272;
+/// Where its sum of all work RAM bytes stands, modulo 2^32: 4 bytes, lowest first.
+pub const SUM: usize = 280;
 /// Bytes that a cycle answers: held, edge, count, and eleven of (write, bank, address, byte).
 pub const ANSWER_SIZE: usize = 58;
 
@@ -21,7 +27,16 @@ type Seen = *const u8;
 
 // A slice crosses as its pointer and its length.
 unsafe extern "C" {
-    fn cloverwain_fresh(machine: Bytes, _: usize, length: usize, bit_cycles: u16) -> u8;
+    fn cloverwain_fresh(
+        machine: Bytes,
+        _: usize,
+        low: Seen,
+        _: usize,
+        high: Seen,
+        _: usize,
+        length: usize,
+        bit_cycles: u16,
+    ) -> u8;
     fn cloverwain_cycle(
         machine: Bytes,
         _: usize,
@@ -152,9 +167,20 @@ macro_rules! on {
     }};
 }
 
-/// A machine at power-on; a refused one has bit cycles 1 and record length 0.
-pub fn fresh(machine: &mut [u8], length: usize, bit_cycles: u16) -> u8 {
-    unsafe { cloverwain_fresh(machine.as_mut_ptr(), machine.len(), length, bit_cycles) }
+/// A machine at power-on with the sum of both banks; a refused one has bit cycles 1, record length 0 and sum 0.
+pub fn fresh(machine: &mut [u8], low: &[u8], high: &[u8], length: usize, bit_cycles: u16) -> u8 {
+    unsafe {
+        cloverwain_fresh(
+            machine.as_mut_ptr(),
+            machine.len(),
+            low.as_ptr(),
+            low.len(),
+            high.as_ptr(),
+            high.len(),
+            length,
+            bit_cycles,
+        )
+    }
 }
 
 pub fn cycle(lent: Lent, event: u8, line: bool, timer: bool, out: &mut [u8]) -> u8 {

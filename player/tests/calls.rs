@@ -1,23 +1,19 @@
 //! The interface, call by call, and the paper's numbers.
 
-use player::{Event, Machine, Refusal, raw};
+use cloverwain::{Event, Machine, Refusal, raw};
 
 fn machine() -> Machine {
-    Machine::fresh(4, 264, vec![0x11, 0x22]).expect("accepted")
+    Machine::filled(&[0], 4, 264, vec![0x11, 0x22]).expect("accepted")
 }
 
 #[test]
 fn fresh_is_refused_by_2_and_10() {
-    assert_eq!(
-        Machine::fresh(0, 264, vec![]).err(),
-        Some(Refusal::RecordLength)
-    );
-    assert_eq!(Machine::fresh(1, 0, vec![]).err(), Some(Refusal::BitCycles));
-    assert_eq!(
-        Machine::fresh(1, 4097, vec![]).err(),
-        Some(Refusal::BitCycles)
-    );
-    assert!(Machine::fresh(1, 4096, vec![]).is_ok());
+    let refused = |slots, bit_cycles| Machine::filled(&[0], slots, bit_cycles, vec![]).err();
+    assert_eq!(refused(0, 264), Some(Refusal::RecordLength));
+    assert_eq!(refused(usize::MAX, 264), Some(Refusal::RecordLength));
+    assert_eq!(refused(1, 0), Some(Refusal::BitCycles));
+    assert_eq!(refused(1, 4097), Some(Refusal::BitCycles));
+    assert_eq!(refused(1, 4096), None);
 }
 
 #[test]
@@ -92,7 +88,7 @@ fn an_image_out_of_the_ranges_is_refused_by_4() {
 
 #[test]
 fn a_transfer_shows_its_accesses() {
-    let mut machine = Machine::fresh(64, 264, vec![]).expect("accepted");
+    let mut machine = Machine::filled(&[0], 64, 264, vec![]).expect("accepted");
     for (address, byte) in [
         (0x4300, 0),
         (0x4301, 0x18),

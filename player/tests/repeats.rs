@@ -1,7 +1,7 @@
 //! Request 1/12 through the library: a ROM whose length is a power of two of at least 32,768 repeats, any other is silent
 //! past its end. Expected bytes are taken from the ROM at the offset that the rule gives.
 
-use player::{Access, Event, Machine, Refusal};
+use cloverwain::{Access, Event, Machine, Refusal};
 
 const WORDS: &[u8; 15] = b"AXLE AXIS APEX\n";
 /// Where the words stand in the 256 KiB ROM: in its bank 5 at $9000.
@@ -30,7 +30,7 @@ fn words_rom() -> Vec<u8> {
 
 /// A machine with that ROM and a known byte on the open bus, which cartridge accesses leave there.
 fn machine(rom: &[u8]) -> Machine {
-    let mut machine = Machine::fresh(64, 264, rom.to_vec()).expect("accepted");
+    let mut machine = Machine::filled(&[0], 64, 264, rom.to_vec()).expect("accepted");
     write(&mut machine, 0x2100, &[OPEN_BUS]);
     machine
 }
@@ -311,16 +311,17 @@ fn a_write_to_the_rom_has_no_effect() {
             assert_eq!(read(&mut machine, 0x05, WORDS_ADDRESS).0, WORDS[0]);
         }
     }
-    let is_zero = |page| {
-        let page = machine.page(page).expect("a page");
-        page.iter().all(|byte| *byte == 0)
-    };
-    assert!((0..512).all(is_zero), "no byte went to work RAM");
+    let is_zero = |bank: &[u8]| bank.iter().all(|byte| *byte == 0);
+    assert!(
+        machine.banks().into_iter().all(is_zero),
+        "no byte went to work RAM"
+    );
 }
 
 #[test]
 fn a_rom_of_one_byte_more_than_4_mib_is_refused_by_3() {
-    let mut machine = Machine::fresh(4, 264, vec![0; 4_194_305]).expect("fresh takes no ROM");
+    let rom = vec![0; 4_194_305];
+    let mut machine = Machine::filled(&[0], 4, 264, rom).expect("fresh takes no ROM");
     let refused = Refusal::RomLength;
     assert_eq!(refused.number(), 3);
     assert_eq!(machine.read(0x00, 0x8000), Err(refused));

@@ -1,7 +1,9 @@
-//! Both players over a file, call by call: answers and machine after each call, banks and record after each row.
+//! Both players over a file, call by call: answers and machine after each call, banks and record after each row. Before
+//! that, fresh on both sides of its limits.
 
 use crate::files::{File, Row};
-use crate::players::{Plain, Player, Proved, same_lent};
+use crate::players::{Plain, Player, Proved, checked, same_lent};
+use cloverwain::{BANK_SIZE, raw};
 
 /// Counts that are printed beside the verdict.
 #[derive(Default)]
@@ -11,8 +13,47 @@ pub struct Counts {
     pub accesses: u64,
 }
 
+/// Both lengths right, either one wrong, and two wrong ones that add up to the right whole.
+const BANKS: [[usize; 2]; 9] = [
+    [BANK_SIZE, BANK_SIZE],
+    [0, BANK_SIZE],
+    [BANK_SIZE - 1, BANK_SIZE],
+    [BANK_SIZE + 1, BANK_SIZE],
+    [BANK_SIZE, 0],
+    [BANK_SIZE, BANK_SIZE - 1],
+    [BANK_SIZE, BANK_SIZE + 1],
+    [BANK_SIZE - 1, BANK_SIZE + 1],
+    [0, 2 * BANK_SIZE],
+];
+
+/// Answers how many calls were the same.
+pub fn fresh() -> Result<u64, String> {
+    let bytes: Vec<u8> = (0..=2 * BANK_SIZE).map(|place| (place % 251) as u8).collect();
+    let mut calls = 0;
+    for lengths in BANKS {
+        // The second starts one byte later, so that two whole banks have two sums.
+        let (low, high) = (&bytes[..lengths[0]], &bytes[1..][..lengths[1]]);
+        for record_length in [0, 255, 256, 512] {
+            for bit_cycles in [0, 1, 4096, 4097] {
+                same_fresh(low, high, record_length, bit_cycles).map_err(|what| {
+                    format!("fresh with banks of {lengths:?}, {record_length}, {bit_cycles}: {what} differ")
+                })?;
+                calls += 1;
+            }
+        }
+    }
+    Ok(calls)
+}
+
+fn same_fresh(low: &[u8], high: &[u8], record_length: usize, bit_cycles: u16) -> Result<(), &'static str> {
+    let mut machine = [0; raw::MACHINE_SIZE];
+    let number = raw::fresh(&mut machine, low, high, record_length, bit_cycles);
+    let ours = plain::Machine::fresh(low, high, record_length, bit_cycles).map(|machine| machine.bytes());
+    same("machines", ours, checked(number, machine))
+}
+
 pub fn check(file: &File, passes: usize) -> Result<Counts, String> {
-    let number = player::raw::file_check(&file.bytes());
+    let number = raw::file_check(&file.bytes());
     if number != 0 {
         return Err(format!("{}: file check gives {number}", file.name));
     }

@@ -47,6 +47,7 @@ fn find(name: &str) -> Result<File, String> {
 }
 
 fn compare() -> Result<(), String> {
+    println!("fresh: {} calls the same", check::fresh()?);
     for file in File::all() {
         let counts = check::check(&file, PASSES)?;
         println!(

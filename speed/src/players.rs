@@ -1,10 +1,9 @@
 //! The two players behind one trait, with what they are lent.
 
 use crate::files::{BIT_CYCLES, File};
-use player::raw;
+use cloverwain::{BANK_SIZE, raw};
 use std::hint::black_box;
 
-const BANK_SIZE: usize = 65_536;
 /// The trace program's record.
 const RECORD_SIZE: usize = 65_536;
 
@@ -58,8 +57,9 @@ impl Plain {
 
 impl Player for Plain {
     fn fresh(file: &File) -> Self {
-        let machine = plain::Machine::fresh(RECORD_SIZE, BIT_CYCLES).expect("accepted");
-        Self { machine, lent: Lent::fresh(file) }
+        let lent = Lent::fresh(file);
+        let machine = plain::Machine::fresh(&lent.low, &lent.high, RECORD_SIZE, BIT_CYCLES).expect("accepted");
+        Self { machine, lent }
     }
 
     fn cycle(&mut self, event: u8, line_due: bool) -> Result<(), u8> {
@@ -106,15 +106,16 @@ impl Proved {
     }
 }
 
-fn checked<T>(number: u8, answer: T) -> Result<T, u8> {
+pub fn checked<T>(number: u8, answer: T) -> Result<T, u8> {
     if number == 0 { Ok(answer) } else { Err(number) }
 }
 
 impl Player for Proved {
     fn fresh(file: &File) -> Self {
+        let lent = Lent::fresh(file);
         let mut machine = [0; raw::MACHINE_SIZE];
-        assert_eq!(raw::fresh(&mut machine, RECORD_SIZE, BIT_CYCLES), 0);
-        Self { machine, lent: Lent::fresh(file), answer: [0; raw::ANSWER_SIZE] }
+        assert_eq!(raw::fresh(&mut machine, &lent.low, &lent.high, RECORD_SIZE, BIT_CYCLES), 0);
+        Self { machine, lent, answer: [0; raw::ANSWER_SIZE] }
     }
 
     fn cycle(&mut self, event: u8, line_due: bool) -> Result<(), u8> {
@@ -149,11 +150,15 @@ impl Player for Proved {
     }
 }
 
-/// Banks and record of both.
+/// Banks and record of both, and the sum that each machine carries, added up anew.
 pub fn same_lent(plain: &Plain, proved: &Proved) -> Result<(), &'static str> {
     let (ours, theirs) = (plain.lent(), proved.lent());
     if (&ours.low, &ours.high) != (&theirs.low, &theirs.high) {
         return Err("banks");
+    }
+    let sum: u32 = ours.low.iter().chain(&ours.high).map(|byte| u32::from(*byte)).sum();
+    if [plain.machine(), proved.machine()].iter().any(|machine| machine[raw::SUM..] != sum.to_le_bytes()) {
+        return Err("a sum and the banks");
     }
     if ours.record != theirs.record { Err("records") } else { Ok(()) }
 }

@@ -3,7 +3,7 @@
 
 use crate::files::File;
 use crate::players::{Plain, Player, Proved, same_lent};
-use player::raw;
+use cloverwain::raw;
 
 const SEED: u64 = 1;
 /// Banks and record are compared, and the ROM is changed, after this many calls.

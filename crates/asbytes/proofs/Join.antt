@@ -18,9 +18,9 @@ use Rattle.state.specs.declared.Machine.{Machine}
 use Rattle.wram.specs.Olds.{noOlds}
 use Rattle.wram.specs.declared.Olds.{Olds}
 use Rattle.asbytes.specs.Answer.{encAccesses, accessesPlace, answered}
-use Rattle.asbytes.specs.Machine.{headOf, broken, machineOf, benchOf, counted, stored, saved}
+use Rattle.asbytes.specs.Machine.{headOf, broken, machineOf, benchOf, counted, summed, stored, saved}
 use Rattle.asbytes.specs.Places as at
-use Rattle.asbytes.specs.Places.{beside, slotAt, countAt, lengthAt}
+use Rattle.asbytes.specs.Places.{beside, slotAt, countAt, lengthAt, sumAt}
 
 -- ---- the machine read
 
@@ -36,10 +36,10 @@ module _ (e : List ℕ) {ok : Bool} {m : Machine} (p : ok ≡ entryOk e) (q : m 
   unfolding machineOf
   broken-by t = ap broken q ∙ (λ i. pick ((sym t ∙ ap sound p) i) (machineAt e) (broken (machineAt e)))
 
-pub bench-by : {e : List ℕ} {m : Machine} {a b c : ℕ} (s : List ℕ) → e ≡ headOf s → m ≡ machineOf e → a ≡ slotAt s → b ≡ countAt s → c ≡ lengthAt s
-    → bench m a b c ≡ benchOf s
+pub bench-by : {e : List ℕ} {m : Machine} {a b c t : ℕ} (s : List ℕ) → e ≡ headOf s → m ≡ machineOf e → a ≡ slotAt s → b ≡ countAt s → c ≡ lengthAt s → t ≡ sumAt s
+    → bench m a b c t ≡ benchOf s
 unfolding benchOf
-bench-by s p q x y z = λ i. bench ((q ∙ ap machineOf p) i) (x i) (y i) (z i)
+bench-by s p q x y z t = λ i. bench ((q ∙ ap machineOf p) i) (x i) (y i) (z i) (t i)
 
 -- ---- and written
 
@@ -56,10 +56,14 @@ unfolding counted
 counted-by s slot kept room p q r =
     r ∙ (λ i. patched ((q ∙ (λ j. patched (p j) (beside at.kept .start) (le 8 kept))) i) (beside at.length .start) (le 8 room))
 
-pub stored-by : (s : List ℕ) (b : Bench) {w z : List ℕ} → w ≡ patched s 0 (encode (b .machine) noOlds)
-    → z ≡ counted w (b .slot) (b .kept) (b .length) → z ≡ stored b s
+pub summed-by : (s : List ℕ) (sum : ℕ) {b s′ : List ℕ} → b ≡ le 4 sum → s′ ≡ patched s (beside at.sum .start) b → s′ ≡ summed s sum
+unfolding summed
+summed-by s sum p q = put-by s (beside at.sum .start) q p
+
+pub stored-by : (s : List ℕ) (b : Bench) {w x z : List ℕ} → w ≡ patched s 0 (encode (b .machine) noOlds)
+    → x ≡ counted w (b .slot) (b .kept) (b .length) → z ≡ summed x (b .sum) → z ≡ stored b s
 unfolding stored
-stored-by s b p q = q ∙ ap (λ (l : List ℕ). counted l (b .slot) (b .kept) (b .length)) p
+stored-by s b p q r = r ∙ ap (λ (l : List ℕ). summed l (b .sum)) (q ∙ ap (λ (l : List ℕ). counted l (b .slot) (b .kept) (b .length)) p)
 
 pub saved-by : (s : List ℕ) (n : ℕ) (b : Bench) {s′ : List ℕ} → eqb n 0 ≡ true → s′ ≡ stored b s → s′ ≡ saved n b s
 unfolding saved

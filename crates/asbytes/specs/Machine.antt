@@ -1,4 +1,4 @@
--- The machine as it crosses to another language: its image without old bytes, then next slot, kept and record length.
+-- The machine as it crosses to another language: its image without old bytes, then next slot, kept, record length and the sum of work RAM.
 use Prim.Native.Nat.{ℕ}
 use mathlib.Core.Bool.{_&&_}
 use mathlib.Core.List.{List}
@@ -16,7 +16,7 @@ use Rattle.ranges.specs.Entry.{entryOk}
 use Rattle.state.specs.declared.Machine.{Machine}
 use Rattle.wram.specs.Olds.{noOlds}
 use Rattle.asbytes.specs.Places as at
-use Rattle.asbytes.specs.Places.{beside, slotAt, countAt, lengthAt}
+use Rattle.asbytes.specs.Places.{beside, slotAt, countAt, lengthAt, sumAt}
 
 -- the image that the first bytes are; zeros, which no image is, where there are too few
 unfoldable pub headOf : List ℕ → List ℕ
@@ -37,16 +37,20 @@ machineOf e = pick (entryOk e && eqb (num e the.oldCount) 0) (machineAt e) (brok
 
 -- what the bytes stand for; a byte past the end reads 0
 unfoldable pub benchOf : List ℕ → Bench
-benchOf s = bench (machineOf (headOf s)) (slotAt s) (countAt s) (lengthAt s)
+benchOf s = bench (machineOf (headOf s)) (slotAt s) (countAt s) (lengthAt s) (sumAt s)
 
--- the numbers beside the image laid over the bytes
+-- the record's counts laid over the bytes
 unfoldable pub counted : List ℕ → (slot kept length : ℕ) → List ℕ
 counted s slot kept length =
     patched (patched (patched s (beside at.slot .start) (le 8 slot)) (beside at.kept .start) (le 8 kept)) (beside at.length .start) (le 8 length)
 
+-- and the sum
+unfoldable pub summed : List ℕ → ℕ → List ℕ
+summed s sum = patched s (beside at.sum .start) (le 4 sum)
+
 -- a machine laid over the bytes
 unfoldable pub stored : Bench → List ℕ → List ℕ
-stored b s = counted (patched s 0 (encode (b .machine) noOlds)) (b .slot) (b .kept) (b .length)
+stored b s = summed (counted (patched s 0 (encode (b .machine) noOlds)) (b .slot) (b .kept) (b .length)) (b .sum)
 
 -- an accepted call leaves its machine, a refused one every byte as it was
 unfoldable pub saved : ℕ → Bench → List ℕ → List ℕ

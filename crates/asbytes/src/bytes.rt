@@ -1,8 +1,8 @@
 // The machine to and from its bytes.
 ghost use mathlib.Core.Path.{_≡_};
 ghost use denote.Ref.{now};
-ghost use Rattle.asbytes.specs.Machine.{headOf, machineOf, benchOf, counted, stored, saved};
-ghost use Rattle.asbytes.specs.Places.{slotAt, countAt, lengthAt};
+ghost use Rattle.asbytes.specs.Machine.{headOf, machineOf, benchOf, counted, summed, stored, saved};
+ghost use Rattle.asbytes.specs.Places.{slotAt, countAt, lengthAt, sumAt};
 ghost use Rattle.fields.specs.Little.{le, field};
 ghost use Rattle.fields.specs.Patch.{patched};
 ghost use Rattle.image.specs.Encode.{encode};
@@ -10,11 +10,14 @@ ghost use Rattle.wram.specs.Olds.{noOlds};
 use crate::KEPT;
 use crate::LENGTH;
 use crate::SLOT;
+use crate::SUM;
 use decode::machine_at;
 use fields::eight_bytes;
+use fields::four_bytes;
 use fields::join8;
 use fields::put;
 use fields::word::byte;
+use fields::word::four;
 use image::entry_bytes;
 use layout::IMAGE_SIZE;
 use layout::OLD_COUNT;
@@ -86,6 +89,12 @@ pub fn length_at(s: &[u8]) -> usize
     eight(s, LENGTH) as usize
 }
 
+pub fn sum_at(s: &[u8]) -> u32
+    ensures { λ r. ⌜ r ≡ sumAt (now (s .entry)) ⌝ }
+{
+    four(s, SUM)
+}
+
 pub fn bench_of(s: &[u8]) -> Bench
     ensures { λ r. ⌜ r ≡ benchOf (now (s .entry)) ⌝ }
 {
@@ -94,11 +103,13 @@ pub fn bench_of(s: &[u8]) -> Bench
     let slot = slot_at(s);
     let kept = kept_at(s);
     let length = length_at(s);
+    let sum = sum_at(s);
     Bench {
         machine: m,
         slot: slot,
         kept: kept,
         length: length,
+        sum: sum,
     }
 }
 
@@ -118,6 +129,13 @@ pub fn put_counts(s: &mut [u8], slot: usize, kept: usize, length: usize)
     put_eight(s, LENGTH, length);
 }
 
+pub fn put_sum(s: &mut [u8], sum: u32)
+    ensures { λ _. ⌜ now (s .exit) ≡ summed (now (s .entry)) sum ⌝ }
+{
+    let b = four_bytes(sum);
+    put(s, SUM, &b);
+}
+
 fn put_machine(s: &mut [u8], m: Machine)
     ensures { λ _. ⌜ now (s .exit) ≡ patched (now (s .entry)) 0 (encode m noOlds) ⌝ }
 {
@@ -132,6 +150,7 @@ pub fn store(s: &mut [u8], b: Bench)
     let m = b.machine;
     put_machine(s, m);
     put_counts(s, b.slot, b.kept, b.length);
+    put_sum(s, b.sum);
 }
 
 // An accepted call leaves its machine, a refused one every byte as it was.

@@ -11,7 +11,9 @@ pub const KEPT: usize = SLOT + 8;
 
 pub const LENGTH: usize = KEPT + 8;
 
-pub const MACHINE_SIZE: usize = LENGTH + 8;
+pub const SUM: usize = LENGTH + 8;
+
+pub const MACHINE_SIZE: usize = SUM + 4;
 
 // The answer's: held, edge and how many accesses, then eleven of (write, bank, address, byte).
 pub const ACCESSES: usize = 3;

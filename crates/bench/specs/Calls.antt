@@ -17,7 +17,7 @@ use Rattle.machine.specs.Cycle.{Turned, machineAfter, cycled}
 use Rattle.machine.specs.{PowerOn.powerOnMachine, declared.cycle.Turn.Turn, declared.event.Event.Event}
 use Rattle.machine.specs.declared.event.Event.the-variants.{Nothing, HBlankStart, NormalLine, VBlankStart, FrameStart}
 use Rattle.state.specs.declared.Machine.{Machine}
-use Rattle.wram.specs.{Banks.Banks, Banks.banks, Olds.noOlds, Olds.putBack}
+use Rattle.wram.specs.{Banks.Banks, Banks.banks, Olds.noOlds, Olds.putBack, Sum.ramSum, Sum.follows}
 use Rattle.wram.specs.declared.Olds.{Olds}
 use Rattle.bench.specs.Host.{withIo, padSet, plugSet, answerSet}
 use Rattle.ring.specs.Refusal.{lentNumber, cycleNumber, portNumber, addressNumber, backNumber, freshNumber}
@@ -26,7 +26,7 @@ use Rattle.bench.specs.declared.operate.{Answer.Answer, CycleAnswer.Cycl
 use Rattle.ring.specs.declared.Bench.{Bench}
 use Rattle.bench.specs.declared.operate.WriteAnswer.{WriteAnswer}
 
--- what a call is given and leaves: the machine with its counts, both banks, the record's bytes
+-- what a call is given and leaves: the machine with its counts and its sum, both banks, the record's bytes
 pub record Desk : Type 0 where
   pub bench : Bench
   pub ram : Banks
@@ -39,10 +39,11 @@ desk b l h e = record { bench = b; ram = banks l h; entries = e }
 abbrev pub lentOf : Desk → ℕ → ℕ
 lentOf d rom = lentNumber (d .bench) (length (d .ram .low)) (length (d .ram .high)) (length (d .entries)) rom
 
--- an accepted operation: what the rules give, and one entry
+-- an accepted operation: what the rules give, and one entry; the sum follows work RAM
 abbrev pub recorded : Desk → Machine → Olds → Banks → Desk
 recorded d next olds ram =
-    let n = noted (d .bench) (d .entries) next olds in record { bench = n .bench; ram = ram; entries = n .entries }
+    let n = noted (d .bench) (d .entries) next olds (follows (d .bench .sum) (d .ram) ram) in
+    record { bench = n .bench; ram = ram; entries = n .entries }
 
 -- ---- cycle
 
@@ -151,10 +152,10 @@ pub record Hosting : Type 0 where
 abbrev pub hosting : Answer → List ℕ → Hosting
 hosting r e = record { number = r .number; noted = noting (r .bench) e }
 
--- an accepted change writes one entry, with no old bytes
+-- an accepted change writes one entry, with no old bytes, and leaves the sum as it was
 unfoldable pub hosted : Bench → List ℕ → ℕ → Machine → Hosting
 hosted b e number next =
-    pick (eqb number 0) (record { number = 0; noted = noted b e next noOlds }) (record { number = number; noted = noting b e })
+    pick (eqb number 0) (record { number = 0; noted = noted b e next noOlds (b .sum) }) (record { number = number; noted = noting b e })
 
 -- with the banks as they were
 abbrev pub onBanks : Banks → Hosting → PlainOut
@@ -175,12 +176,13 @@ answerCall rom d addr byte = hostCall d (addressNumber (lentOf d (length rom)) a
 
 -- ---- back and fresh
 
--- the newest entry restores machine and old bytes; no record byte is written
+-- the newest entry restores machine and old bytes, and the sum follows them; no record byte is written
 abbrev pub restored : Desk → Decoded → ℕ → Desk
 restored d e slot =
+    let ram = putBack (e .olds) (d .ram) in
     record {
-      bench = bench (e .machine) slot (d .bench .kept - 1) (d .bench .length);
-      ram = putBack (e .olds) (d .ram);
+      bench = bench (e .machine) slot (d .bench .kept - 1) (d .bench .length) (follows (d .bench .sum) (d .ram) ram);
+      ram = ram;
       entries = d .entries;
     }
 
@@ -193,11 +195,15 @@ backCall d =
     pick (eqb n 0) (record { number = 0; desk = restored d e slot }) (record { number = n; desk = d })
 
 -- power-on with an empty record
-abbrev pub emptyBench : ℕ → ℕ → Bench
-emptyBench length bitcycles = bench (powerOnMachine bitcycles) 0 0 length
+abbrev pub emptyBench : (room bitcycles sum : ℕ) → Bench
+emptyBench room bitcycles sum = bench (powerOnMachine bitcycles) 0 0 room sum
 
--- a refused fresh has bit cycles 1 and record length 0
-unfoldable pub freshCall : ℕ → ℕ → Answer
-freshCall length bitcycles =
-    let n = freshNumber length bitcycles in
-    pick (eqb n 0) (record { number = 0; bench = emptyBench length bitcycles }) (record { number = n; bench = emptyBench 0 1 })
+-- what a refused fresh has: bit cycles 1, record length 0 and sum 0
+abbrev pub noBench : Bench
+noBench = emptyBench 0 1 0
+
+-- both banks are looked at: their lengths, then their sum
+unfoldable pub freshCall : (low high : List ℕ) → (room bitcycles : ℕ) → Answer
+freshCall low high room bitcycles =
+    let n = freshNumber (length low) (length high) room bitcycles in
+    pick (eqb n 0) (record { number = 0; bench = emptyBench room bitcycles (ramSum (banks low high)) }) (record { number = n; bench = noBench })

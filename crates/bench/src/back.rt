@@ -11,6 +11,7 @@ use ring::refusal::lent_number;
 use ring::slots::less_kept;
 use ring::slots::slot_before;
 use wram::put_back;
+use wram::sum::sum_before;
 
 pub fn back(b: Bench, low: &mut [u8], high: &mut [u8], entries: &mut [u8]) -> Answer
     ensures { λ r. ⌜ plainOut r (now (low .exit)) (now (high .exit)) (now (entries .exit)) ≡ backCall (desk b (now (low .entry)) (now (high .entry)) (now (entries .entry))) ⌝ }
@@ -29,12 +30,14 @@ pub fn back(b: Bench, low: &mut [u8], high: &mut [u8], entries: &mut [u8]) -> An
     let olds = newest.olds;
     let m = newest.machine;
     let kept = less_kept(b.kept);
+    let sum = sum_before(b.sum, low, high, olds);
     put_back(low, high, olds);
     let b2 = Bench {
         machine: m,
         slot: slot,
         kept: kept,
         length: b.length,
+        sum: sum,
     };
     Answer {
         number: 0,

@@ -18,6 +18,7 @@ use ring::refusal::lent_number;
 use ring::refusal::port_number;
 use ring::slots::note;
 use state::Machine;
+use wram::sum::sum_after;
 
 // `number` is 0 where the call was accepted, else document 01's refusal.
 pub struct CycleAnswer {
@@ -105,7 +106,8 @@ pub fn cycle(
     let k = t.core;
     let log = k.log;
     let olds = k.olds;
-    let b2 = note(b, entries, next, olds);
+    let sum = sum_after(b.sum, low, high, olds);
+    let b2 = note(b, entries, next, olds, sum);
     CycleAnswer {
         number: 0,
         bench: b2,
@@ -144,7 +146,8 @@ pub fn read(
     let io2 = k.io;
     let olds = k.olds;
     let next = with_io(m, io2);
-    let b2 = note(b, entries, next, olds);
+    let sum = sum_after(b.sum, low, high, olds);
+    let b2 = note(b, entries, next, olds, sum);
     let cost = bus::speed::cost(io.enables.memsel, bank, addr);
     ReadAnswer {
         number: 0,
@@ -182,7 +185,8 @@ pub fn write(
     let io2 = k.io;
     let olds = k.olds;
     let next = with_io(m, io2);
-    let b2 = note(b, entries, next, olds);
+    let sum = sum_after(b.sum, low, high, olds);
+    let b2 = note(b, entries, next, olds, sum);
     let cost = bus::speed::cost(io.enables.memsel, bank, addr);
     WriteAnswer {
         number: 0,
@@ -202,7 +206,7 @@ fn host(b: Bench, entries: &mut [u8], number: u8, next: Machine) -> Answer
         };
     }
     let olds = wram::no_olds();
-    let b2 = note(b, entries, next, olds);
+    let b2 = note(b, entries, next, olds, b.sum);
     Answer {
         number: 0,
         bench: b2,

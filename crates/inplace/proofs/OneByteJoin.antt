@@ -8,8 +8,8 @@ use lib.Dec.{eqb, leb, ltb}
 use lib.ListN.{set, replicate}
 use Rattle.common.specs.Pick.{pick}
 use Rattle.asbytes.specs.Answer.{encAccess, accessesPlace, answered}
-use Rattle.asbytes.specs.{Crossed.crossed, Machine.headOf}
-use Rattle.asbytes.specs.Places.{slotAt, countAt, lengthAt}
+use Rattle.asbytes.specs.{Crossed.crossed, Machine.headOf, Machine.summed}
+use Rattle.asbytes.specs.Places.{slotAt, countAt, lengthAt, sumAt}
 use Rattle.bus.specs.{Access.pushAccess, Route.routeOf}
 use Rattle.bus.specs.declared.route.Route.{Route}
 use Rattle.entry.specs.Slot.{writeSlot}
@@ -23,7 +23,7 @@ use Rattle.transfer.specs.{Bits.flagOf, Bits.down, Byte.movedLog, Byte.nextA1t}
 use Rattle.transfer.specs.declared.byte.Trip.{Trip}
 use Rattle.way.specs.Seen.{clockAt, nmiAt, baseAt, unitAt, dmapAt, bsideAt, tripIn}
 use Rattle.wram.specs.Banks.{banks, peeked, poked}
-use Rattle.wram.specs.{Olds.noOlds, Olds.keptAt, declared.Olds.Olds, declared.Place.Place}
+use Rattle.wram.specs.{Olds.noOlds, Olds.keptAt, Sum.follows, declared.Olds.Olds, declared.Place.Place}
 use Rattle.inplace.specs.OneByte.{wmaddBytes, placeFor, byteBy, byteFrom, wmaddNext, writtenNext, afterRegisters, afterUnit, afterChannel, afterMove, carried}
 use Rattle.inplace.specs.Rest.{at, counting}
 
@@ -98,23 +98,25 @@ module _ (e : List ℕ) where
       let y8 = h8 ∙ (λ i. patched (h i) (at (the.written 0)) (hp i)) in
       h9 ∙ (λ i. patched (y8 i) (at the.clock) (le 8 ((hlater ∙ ap (λ (n : ℕ). (n + 1) % 2 ^ 64) hc) i)))
 
-pub carried-by : (rom s l h en out : List ℕ) {e l2 h2 en2 x s1 s2 o : List ℕ} {slot kept room v : ℕ} {t : Trip} {place : Place} {none olds : Olds} {nmi : Bool}
-    → e ≡ headOf s → slot ≡ slotAt s → kept ≡ countAt s → room ≡ lengthAt s → t ≡ tripIn e
+pub carried-by : (rom s l h en out : List ℕ) {e l2 h2 en2 x s1 s2 s3 o : List ℕ} {slot kept room sum v next : ℕ} {t : Trip} {place : Place} {none olds : Olds} {nmi : Bool}
+    → e ≡ headOf s → slot ≡ slotAt s → kept ≡ countAt s → room ≡ lengthAt s → sum ≡ sumAt s → t ≡ tripIn e
     → v ≡ byteFrom e rom l h (t .source .bank) (t .source .addr) → place ≡ placeFor e (t .target .bank) (t .target .addr) → none ≡ noOlds
-    → olds ≡ keptAt none (banks l h) place → banks l2 h2 ≡ poked (banks l h) place v
+    → olds ≡ keptAt none (banks l h) place → next ≡ follows sum (banks l h) (poked (banks l h) place v) → banks l2 h2 ≡ poked (banks l h) place v
     → en2 ≡ writeSlot entrySize slot (patched e (at the.oldCount) (encOlds olds)) en → x ≡ afterMove e v → s1 ≡ patched s 0 x
-    → s2 ≡ counting s1 slot kept room → nmi ≡ nmiAt e → o ≡ answered true (nmi && not (eqb (num e the.nmi) 1)) (movedLog t v) out
-    → crossed 0 s2 l2 h2 en2 o ≡ carried rom s l h en out
+    → s2 ≡ counting s1 slot kept room → s3 ≡ summed s2 next → nmi ≡ nmiAt e → o ≡ answered true (nmi && not (eqb (num e the.nmi) 1)) (movedLog t v) out
+    → crossed 0 s3 l2 h2 en2 o ≡ carried rom s l h en out
 unfolding carried
-carried-by rom s l h en out he hs hk hr ht hv hp hn ho hb hen hx h1 h2 hm hout =
+carried-by rom s l h en out he hs hk hr hu ht hv hp hn ho hf hb hen hx h1 h2 h3 hm hout =
     let t = ht ∙ ap tripIn he in
     let v = hv ∙ (λ i. byteFrom (he i) rom l h (t i .source .bank) (t i .source .addr)) in
     let place = hp ∙ (λ i. placeFor (he i) (t i .target .bank) (t i .target .addr)) in
     let olds = ho ∙ (λ i. keptAt (hn i) (banks l h) (place i)) in
     let ram = hb ∙ (λ i. poked (banks l h) (place i) (v i)) in
     let laid = h1 ∙ (λ i. patched s 0 ((hx ∙ (λ j. afterMove (he j) (v j))) i)) in
+    let sum = hf ∙ (λ i. follows (hu i) (banks l h) (poked (banks l h) (place i) (v i))) in
+    let counts = h2 ∙ (λ i. counting (laid i) (hs i) (hk i) (hr i)) in
     let nmi = hm ∙ ap nmiAt he in
     λ i.
-    crossed 0 ((h2 ∙ (λ j. counting (laid j) (hs j) (hk j) (hr j))) i) (ram i .low) (ram i .high)
+    crossed 0 ((h3 ∙ (λ j. summed (counts j) (sum j))) i) (ram i .low) (ram i .high)
     ((hen ∙ (λ j. writeSlot entrySize (hs j) (patched (he j) (at the.oldCount) (encOlds (olds j))) en)) i)
     ((hout ∙ (λ j. answered true (nmi j && not (eqb (num (he j) the.nmi) 1)) (movedLog (t j) (v j)) out)) i)

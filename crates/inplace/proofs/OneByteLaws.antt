@@ -10,8 +10,8 @@ use lib.ListN.{length, getD, set, length-set}
 use Rattle.common.specs.{Pick.pick, Range.within, Width.Bytes}
 use Rattle.common.proofs.{RangeLaws.below-eight, TableLaws.pick-elim}
 use Rattle.asbytes.specs.{Answer.answered, Crossed.crossed, Crossed.cycleCrossed}
-use Rattle.asbytes.specs.Machine.{headOf, benchOf, stored, saved}
-use Rattle.asbytes.specs.Places.{slotAt, countAt, lengthAt}
+use Rattle.asbytes.specs.Machine.{headOf, benchOf, summed, stored, saved}
+use Rattle.asbytes.specs.Places.{slotAt, countAt, lengthAt, sumAt}
 use Rattle.bench.specs.Calls.{desk, cycleCall, cycleDone}
 use Rattle.ring.specs.Slots.{noted}
 use Rattle.bus.specs.{Access.opened, Access.registerRead, View.channelOf, View.withChannel, World.World, World.world}
@@ -49,6 +49,7 @@ use Rattle.way.proofs.Call.{benchIn, call-is, moves as goesMoving}
 use Rattle.way.proofs.Ready.{Ready, machineIn, channelIn, channel-is, Due, due, bytes-are, idle, one, two, runs}
 use Rattle.wram.specs.Banks.{banks, peeked, poked}
 use Rattle.wram.specs.Olds.{noOlds, keptAt}
+use Rattle.wram.specs.Sum.{follows}
 use Rattle.wram.specs.declared.Olds.{Olds}
 use Rattle.inplace.specs.OneByte.{wmaddBytes, portByte, placeFor, byteBy, byteFrom, wmaddNext, writtenNext, afterMove, carried}
 use Rattle.inplace.specs.Rest.{at, counting, edgeAt}
@@ -298,16 +299,16 @@ module _ (s : List ℕ) (r : Ready s) (byteDue : Due s) (plain : Every (tripTest
       crossed-is =
           let place = placeFor e (trip .target .bank) (trip .target .addr) in
           let olds = keptAt noOlds (banks l h) place in
-          let laidOver : List ℕ → List ℕ = λ (x : List ℕ). counting (patched s 0 x) (slotAt s) (countAt s) (lengthAt s) in
+          let laidOver : List ℕ → ℕ → List ℕ = λ (x : List ℕ) (sum : ℕ). summed (counting (patched s 0 x) (slotAt s) (countAt s) (lengthAt s)) sum in
           let withOlds : List ℕ → List ℕ = λ (x : List ℕ). patched x (at the.oldCount) (encOlds olds) in
           let entry : withOlds e ≡ encode m olds = ap withOlds (sym (bytes-are s r)) ∙ with-olds m olds in
           (λ i.
           let x = byte-is i in
           let ram = poked (banks l h) place x in
-          crossed 0 (laidOver (afterMove e x)) (ram .low) (ram .high) (writeSlot entrySize (slotAt s) (entry i) en) (answered true (edgeAt e) (movedLog trip x) out))
+          crossed 0 (laidOver (afterMove e x) (follows (sumAt s) (banks l h) ram)) (ram .low) (ram .high) (writeSlot entrySize (slotAt s) (entry i) en) (answered true (edgeAt e) (movedLog trip x) out))
           ∙ (λ i.
           let ram = poked (banks l h) place v in
-          crossed 0 (laidOver (image-is v i)) (ram .low) (ram .high) (writeSlot entrySize (slotAt s) (encode m olds) en) (answered true (edgeAt e) (movedLog trip v) out))
+          crossed 0 (laidOver (image-is v i) (follows (sumAt s) (banks l h) ram)) (ram .low) (ram .high) (writeSlot entrySize (slotAt s) (encode m olds) en) (answered true (edgeAt e) (movedLog trip v) out))
 
 -- ---- the law
 

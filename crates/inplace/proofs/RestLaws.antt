@@ -11,9 +11,9 @@ use lib.ListN.{length, take, drop, length-append}
 use lib.Seq.{take-append-le, drop-append-le}
 use Rattle.common.specs.Width.{Bytes}
 use Rattle.asbytes.specs.{Answer.answered, Crossed.crossed, Crossed.cycleCrossed}
-use Rattle.asbytes.specs.Machine.{headOf, benchOf, counted, stored, saved}
-use Rattle.asbytes.specs.Places.{slotAt, countAt, lengthAt}
-use Rattle.asbytes.proofs.Head.{same, put-is, whole}
+use Rattle.asbytes.specs.Machine.{headOf, benchOf, counted, summed, stored, saved}
+use Rattle.asbytes.specs.Places.{slotAt, countAt, lengthAt, sumAt}
+use Rattle.asbytes.proofs.{Beside.sum-fits, Beside.counted-sum, Head.same, Head.put-is, Head.whole}
 use Rattle.bench.specs.Calls.{desk, cycleCall, cycleDone}
 use Rattle.ring.specs.Slots.{after, bench, noted}
 use Rattle.bus.specs.Access.{noLog, opened}
@@ -33,7 +33,8 @@ use Rattle.way.specs.Seen.{waitAt, clockAt, nmiAt, seen}
 use Rattle.way.specs.Way.{waiting, wayOf}
 use Rattle.way.proofs.Call.{benchIn, call-is, waits}
 use Rattle.way.proofs.Ready.{Ready, machineIn, seen-same, bytes-are, idle, one, two, runs, rests}
-use Rattle.wram.specs.Olds.{noOlds}
+use Rattle.wram.proofs.SumLaws.{follow-none}
+use Rattle.wram.specs.{Banks.Banks, Banks.banks, Olds.noOlds, Sum.follows}
 use Rattle.wram.specs.declared.Olds.{Olds}
 use Rattle.inplace.specs.Rest.{at, ticking, counting, edgeAt, rested}
 
@@ -97,14 +98,19 @@ module _ (s : List ℕ) (r : Ready s) (still : waiting (seen (headOf s)) ≡ tru
   abbrev e : List ℕ
   e = headOf s
 
-  -- the machine that ticked, laid over the bytes
-  stored-is : (nmi : Bool) (wait clock slot kept room : ℕ)
-      → stored (bench (next m nmi (wait - 1) ((clock + 1) % 2 ^ 64)) (after (capacity room) slot) (min (kept + 1) (capacity room)) room) s
+  -- the machine that ticked, laid over the bytes; the banks are as they were, and so is the sum
+  stored-is : (nmi : Bool) (wait clock slot kept room : ℕ) (ram : Banks)
+      → stored (bench (next m nmi (wait - 1) ((clock + 1) % 2 ^ 64)) (after (capacity room) slot) (min (kept + 1) (capacity room)) room (follows (sumAt s) ram ram)) s
       ≡ counting (ticking s nmi wait clock) slot kept room
   unfolding stored counting
-  stored-is nmi wait clock slot kept room =
+  stored-is nmi wait clock slot kept room ram =
       let n = next m nmi (wait - 1) ((clock + 1) % 2 ^ 64) in
-      ap (λ (l : List ℕ). counted l (after (capacity room) slot) (min (kept + 1) (capacity room)) room)
+      let e = encode n noOlds in
+      let a = after (capacity room) slot in
+      let b = min (kept + 1) (capacity room) in
+      ap (summed (counted (patched s 0 e) a b room)) (follow-none (sumAt s) ram (sum-fits s (r .fit)))
+      ∙ counted-sum s (r .fit) e a b room (r .long) (omega (arith, entry-size n noOlds))
+      ∙ ap (λ (l : List ℕ). counted l (after (capacity room) slot) (min (kept + 1) (capacity room)) room)
       (put-is s (r .long) (encode n noOlds) (entry-size n noOlds)
       ∙ sym (tick-head noOlds m (drop imageSize s) nmi wait clock)
       ∙ ap (λ (l : List ℕ). ticking l nmi wait clock) (ap (λ (l : List ℕ). l ++ drop imageSize s) (bytes-are s r) ∙ whole s (r .long)))
@@ -132,7 +138,7 @@ module _ (s : List ℕ) (r : Ready s) (still : waiting (seen (headOf s)) ≡ tru
         (writeSlot entrySize (slotAt s) (sym (bytes-are s r) i) en)
         (answered (ltb 0 (see i .wait)) (nmi-same i && not (eqb (was i) 1)) noLog out))
         ∙ (λ i.
-        crossed 0 (sym (stored-is (nmiAt e) (waitAt e) (clockAt e) (slotAt s) (countAt s) (lengthAt s)) i) l h
+        crossed 0 (sym (stored-is (nmiAt e) (waitAt e) (clockAt e) (slotAt s) (countAt s) (lengthAt s) (banks l h)) i) l h
         (writeSlot entrySize (slotAt s) (encode m noOlds) en) (answered (ltb 0 (waitAt e)) (edgeAt e) noLog out))
 
 -- ---- the law

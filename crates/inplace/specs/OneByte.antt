@@ -5,8 +5,8 @@ use mathlib.Core.List.{List, _++_}
 use lib.Dec.{leb, ltb}
 use lib.ListN.{set}
 use Rattle.common.specs.{Pick.pick, Range.within}
-use Rattle.asbytes.specs.{Answer.answered, Crossed.Crossed, Crossed.crossed, Machine.headOf}
-use Rattle.asbytes.specs.Places.{slotAt, countAt, lengthAt}
+use Rattle.asbytes.specs.{Answer.answered, Crossed.Crossed, Crossed.crossed, Machine.headOf, Machine.summed}
+use Rattle.asbytes.specs.Places.{slotAt, countAt, lengthAt, sumAt}
 use Rattle.bus.specs.Route.{routeOf, placeOf, nextWm}
 use Rattle.bus.specs.declared.route.Route.{Route}
 use Rattle.bus.specs.declared.route.Route.the-variants.{Bank7E, Bank7F, Data, Registers, Cartridge}
@@ -23,6 +23,7 @@ use Rattle.transfer.specs.{Bits.flagOf, Bits.down, Byte.movedLog, Byte.nextA1t}
 use Rattle.way.specs.Seen.{clockAt, nmiAt, busyAt, unitAt, dmapAt, a1tAt, dasAt, bsideAt, tripIn}
 use Rattle.wram.specs.Banks.{banks, peeked, poked}
 use Rattle.wram.specs.Olds.{noOlds, keptAt}
+use Rattle.wram.specs.Sum.{follows}
 use Rattle.wram.specs.declared.Place.{Place}
 use Rattle.inplace.specs.Rest.{at, counting, edgeAt}
 
@@ -82,7 +83,7 @@ module _ (e : List ℕ) where
   afterMove v =
       patched (patched (afterChannel (afterUnit (afterRegisters v))) (at (the.written 0)) (writtenNext v)) (at the.clock) (le 8 ((clockAt e + 1) % 2 ^ 64))
 
--- the entry has the image from before, and the byte of work RAM that was replaced
+-- the entry has the image from before, and the byte of work RAM that was replaced; the sum follows work RAM
 unfoldable pub carried : (rom s l h en out : List ℕ) → Crossed
 carried rom s l h en out =
     let e = headOf s in
@@ -90,6 +91,7 @@ carried rom s l h en out =
     let v = byteFrom e rom l h (t .source .bank) (t .source .addr) in
     let place = placeFor e (t .target .bank) (t .target .addr) in
     let ram = poked (banks l h) place v in
-    crossed 0 (counting (patched s 0 (afterMove e v)) (slotAt s) (countAt s) (lengthAt s)) (ram .low) (ram .high)
+    let counts = counting (patched s 0 (afterMove e v)) (slotAt s) (countAt s) (lengthAt s) in
+    crossed 0 (summed counts (follows (sumAt s) (banks l h) ram)) (ram .low) (ram .high)
     (writeSlot entrySize (slotAt s) (patched e (at the.oldCount) (encOlds (keptAt noOlds (banks l h) place))) en)
     (answered true (edgeAt e) (movedLog t v) out)

@@ -20,7 +20,9 @@ use asbytes::bytes::head_bytes;
 use asbytes::bytes::kept_at;
 use asbytes::bytes::length_at;
 use asbytes::bytes::put_eight;
+use asbytes::bytes::put_sum;
 use asbytes::bytes::slot_at;
+use asbytes::bytes::sum_at;
 use bus::access::Access;
 use bus::route::Route;
 use bus::route::place_of;
@@ -64,6 +66,7 @@ use wram::keep_old;
 use wram::no_olds;
 use wram::peek;
 use wram::poke;
+use wram::sum::sum_with;
 
 const WRITTEN1: usize = WRITTEN + 1;
 
@@ -228,15 +231,18 @@ pub fn carry(
     let slot = slot_at(machine);
     let kept = kept_at(machine);
     let length = length_at(machine);
+    let sum = sum_at(machine);
     let trip = trip_at(&e);
     let nmi = nmi_at(&e);
     let byte = fetch(e, low, high, rom, trip.source.bank, trip.source.addr);
     let place = place_for(e, trip.target.bank, trip.target.addr);
     let none = no_olds();
     let olds = keep_old(none, low, high, place);
+    let next = sum_with(sum, low, high, place, byte);
     let after = after_move(e, byte);
     put(machine, 0, &after);
     count(machine, slot, kept, length);
+    put_sum(machine, next);
     put_moved(out, nmi & !(e[NMI] == 1), trip, byte);
     poke(low, high, place, byte);
     note(entries, slot, e, olds);

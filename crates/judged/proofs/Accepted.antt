@@ -7,10 +7,10 @@ use mathlib.Core.Path.{_≡_}
 use native.Mathlib.Omega.{arith}
 use borrow.Author.Tests.{le-ltb, ne-eqb}
 use lib.ListN.{length}
-use Rattle.bench.specs.Calls.{Desk, lentOf, eventOf, cycleDone, cycleCall, readDone, readCall, costAt, worldOf, bused, writeCall, PlainOut, recorded, padCall, plugCall, answerCall, hosted, restored, backCall}
+use Rattle.bench.specs.Calls.{Desk, lentOf, eventOf, cycleDone, cycleCall, readDone, readCall, costAt, worldOf, bused, writeCall, PlainOut, padCall, plugCall, answerCall, hosted, restored, backCall}
 use Rattle.bench.specs.Host.{padSet, plugSet, answerSet}
 use Rattle.ring.specs.Refusal.{cycleNumber, portNumber, addressNumber, backNumber}
-use Rattle.ring.specs.Slots.{before}
+use Rattle.ring.specs.Slots.{before, noted}
 use Rattle.bus.specs.World.{readAt, writeAt}
 use Rattle.entry.specs.Entry.{decodeAt}
 use Rattle.layout.specs.Layout.{capacity}
@@ -18,9 +18,11 @@ use Rattle.machine.specs.Cycle.{cycled}
 use Rattle.state.specs.declared.Machine.{Machine}
 use Rattle.wram.specs.Olds.{noOlds}
 
--- what pad, plug and port answer leave: another machine, one entry without old bytes, both banks as they were
+-- what pad, plug and port answer leave: another machine, one entry without old bytes, both banks and their sum as they were
 abbrev pub hostDone : Desk → Machine → PlainOut
-hostDone d next = record { number = 0; desk = recorded d next noOlds (d .ram) }
+hostDone d next =
+    let n = noted (d .bench) (d .entries) next noOlds (d .bench .sum) in
+    record { number = 0; desk = record { bench = n .bench; ram = d .ram; entries = n .entries } }
 
 -- nothing that was lent is refused
 module _ (rom : List ℕ) (d : Desk) (p : lentOf d (length rom) ≡ 0) where

@@ -38,7 +38,7 @@ unfolding moving machineOk powerOn
 moving-ok = refl
 
 abbrev pub busy : List ℕ → List ℕ → List ℕ → Desk
-busy l h e = desk (bench moving 0 0 twoSlots) l h e
+busy l h e = desk (bench moving 0 0 twoSlots 0) l h e
 
 two : (l h : List ℕ) → cycled [] moving l h (eventOf 0) false false .after .world .core .log .count ≡ 2
 unfolding moving powerOn cycled updated startPending dueOf acted actBy armed mdmaenOf hdmaenOf timed settled evented pressed opened autoStep dmaStep stepFrom transferByte moved tripOf stepA1t afterByte withChannel withMdmaen channelOf readAt writeAt pushAccess ioWritten registerRead routeOf systemRoute offsetOf

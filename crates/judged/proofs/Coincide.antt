@@ -69,8 +69,8 @@ pub back-coincides : (b : Bench) (low high entries : List ℕ) {l h e l′ h′ 
 back-coincides b low high entries p q = coincide ofPlain p q
 
 -- what is lent nothing to write to leaves its answer alone: a struct, a number, or the bytes of a part
-pub fresh-coincides : (length bitcycles : ℕ) {r r′ : Answer} → r ≡ freshCall length bitcycles → r′ ≡ freshCall length bitcycles → r ≡ r′
-fresh-coincides length bitcycles p q = p ∙⁻¹ q
+pub fresh-coincides : (low high : List ℕ) (room bitcycles : ℕ) {r r′ : Answer} → r ≡ freshCall low high room bitcycles → r′ ≡ freshCall low high room bitcycles → r ≡ r′
+fresh-coincides low high room bitcycles p q = p ∙⁻¹ q
 
 module _ (low high : List ℕ) (page : ℕ) where
   pub page-look-coincides : {r r′ : List ℕ} → r ≡ pageCall low high page → r′ ≡ pageCall low high page → r ≡ r′

@@ -28,9 +28,9 @@ pub record Counted (d : Desk) (b : Bench) : Type 0 where
   pub slot : b .slot ≡ after (capacity (d .bench .length)) (d .bench .slot)
   pub length : b .length ≡ d .bench .length
 
-counted : (d : Desk) (next : Machine) (olds : Olds) {b : Bench} → b ≡ noted (d .bench) (d .entries) next olds .bench → Counted d b
+counted : (d : Desk) (next : Machine) (olds : Olds) (sum : ℕ) {b : Bench} → b ≡ noted (d .bench) (d .entries) next olds sum .bench → Counted d b
 unfolding noted
-counted d next olds p = record { kept = λ i. p i .kept; slot = λ i. p i .slot; length = λ i. p i .length }
+counted d next olds sum p = record { kept = λ i. p i .kept; slot = λ i. p i .slot; length = λ i. p i .length }
 
 -- the accesses that a cycle made: those of the rules, at most eleven, unused places zero
 pub record Accesses (t : Turned) (log : Log) : Type 0 where
@@ -48,7 +48,7 @@ module _ (rom : List ℕ) (d : Desk) (p : lentOf d (length rom) ≡ 0) {l h e : 
     done = k ∙ cycle-accepted rom d p event line timer q c
 
     pub cycle-counted : Counted d (r .bench)
-    cycle-counted = counted d _ _ (ap (λ (o : CycleOut). o .desk .bench) done)
+    cycle-counted = counted d _ _ _ (ap (λ (o : CycleOut). o .desk .bench) done)
 
     pub cycle-accesses : Accesses turned (r .log)
     cycle-accesses =
@@ -57,19 +57,19 @@ module _ (rom : List ℕ) (d : Desk) (p : lentOf d (length rom) ≡ 0) {l h e : 
         record { made = made; most = rw made (x .log-most); filled = rw made (x .log) }
 
   pub read-counted : (bank addr : ℕ) {r : ReadAnswer} → readOut r l h e ≡ readCall rom d bank addr → Counted d (r .bench)
-  read-counted bank addr k = counted d _ _ (ap (λ (o : ReadOut). o .desk .bench) (k ∙ read-accepted rom d p bank addr))
+  read-counted bank addr k = counted d _ _ _ (ap (λ (o : ReadOut). o .desk .bench) (k ∙ read-accepted rom d p bank addr))
 
   pub write-counted : (bank addr byte : ℕ) {r : WriteAnswer} → writeOut r l h e ≡ writeCall rom d bank addr byte → Counted d (r .bench)
-  write-counted bank addr byte k = counted d _ _ (ap (λ (o : WriteOut). o .desk .bench) (k ∙ write-accepted rom d p bank addr byte))
+  write-counted bank addr byte k = counted d _ _ _ (ap (λ (o : WriteOut). o .desk .bench) (k ∙ write-accepted rom d p bank addr byte))
 
   pub pad-counted : (port word : ℕ) → port ≤ 1 → {r : Answer} → plainOut r l h e ≡ padCall rom d port word → Counted d (r .bench)
-  pad-counted port word q k = counted d _ _ (ap (λ (o : PlainOut). o .desk .bench) (k ∙ pad-accepted rom d p port word q))
+  pad-counted port word q k = counted d _ _ _ (ap (λ (o : PlainOut). o .desk .bench) (k ∙ pad-accepted rom d p port word q))
 
   pub plug-counted : (port : ℕ) (on : Bool) → port ≤ 1 → {r : Answer} → plainOut r l h e ≡ plugCall rom d port on → Counted d (r .bench)
-  plug-counted port on q k = counted d _ _ (ap (λ (o : PlainOut). o .desk .bench) (k ∙ plug-accepted rom d p port on q))
+  plug-counted port on q k = counted d _ _ _ (ap (λ (o : PlainOut). o .desk .bench) (k ∙ plug-accepted rom d p port on q))
 
   pub answer-counted : (addr byte : ℕ) → 0x2134 ≤ addr → addr ≤ 0x2143 → {r : Answer} → plainOut r l h e ≡ answerCall rom d addr byte → Counted d (r .bench)
-  answer-counted addr byte q s k = counted d _ _ (ap (λ (o : PlainOut). o .desk .bench) (k ∙ answer-accepted rom d p addr byte q s))
+  answer-counted addr byte q s k = counted d _ _ _ (ap (λ (o : PlainOut). o .desk .bench) (k ∙ answer-accepted rom d p addr byte q s))
 
 -- the counts after one entry less
 pub record Uncounted (d : Desk) (b : Bench) : Type 0 where

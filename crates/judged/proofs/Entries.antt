@@ -22,17 +22,17 @@ use Rattle.ranges.specs.Machine.{machineOk}
 use Rattle.state.proofs.Fit.{FitMachine}
 use Rattle.state.specs.declared.Machine.{Machine}
 use Rattle.wram.proofs.{FitLaws.no-olds-ok, KeepLaws.keep-grows, Ranges.OldsOk}
-use Rattle.wram.specs.Banks.{banks}
+use Rattle.wram.specs.{Banks.banks, Sum.follows}
 use Rattle.wram.specs.Olds.{noOlds, pushOld, keptAt}
 use Rattle.wram.specs.declared.{Old.Old, Olds.Olds, Place.the-variants.Bank7E}
 
 module _ (d : Desk) (olds : Olds) (f : FitMachine (d .bench .machine)) (p : machineOk (d .bench .machine) ≡ true) (g : OldsOk olds)
     (s : d .bench .slot < capacity (length (d .entries))) where
   -- the entry at the slot that was next
-  pub entry-tied : (next : Machine) {e : List ℕ} → e ≡ noted (d .bench) (d .entries) next olds .entries
+  pub entry-tied : (next : Machine) (sum : ℕ) {e : List ℕ} → e ≡ noted (d .bench) (d .entries) next olds sum .entries
       → decodeAt e (d .bench .slot) ≡ record { ok = true; machine = d .bench .machine; olds = olds }
   unfolding noted
-  entry-tied next k = ap (λ (x : List ℕ). decodeAt x (d .bench .slot)) k ∙ read-written (d .bench .machine) olds f p g (d .entries) (d .bench .slot) s
+  entry-tied next sum k = ap (λ (x : List ℕ). decodeAt x (d .bench .slot)) k ∙ read-written (d .bench .machine) olds f p g (d .entries) (d .bench .slot) s
 
 module _ (l h e : List ℕ) (s : Sizes l h e) where
   room : 0 < capacity (length e)
@@ -44,7 +44,7 @@ module _ (l h e : List ℕ) (s : Sizes l h e) where
   pad-olds word k =
       let d = start l h e in
       let x = k ∙ pad-accepted [] d (start-lent s [] (omega arith)) 0 word (omega arith) in
-      entry-tied d noOlds start-fits start-ok no-olds-ok room (padSet (powerOnMachine 264) 0 word) (λ i. x i .desk .entries)
+      entry-tied d noOlds start-fits start-ok no-olds-ok room (padSet (powerOnMachine 264) 0 word) _ (λ i. x i .desk .entries)
 
   -- a write to work RAM overwrites the one byte that stood there
   module _ (small : getD l 0 0 < 256) where
@@ -55,7 +55,7 @@ module _ (l h e : List ℕ) (s : Sizes l h e) where
     unfolding pushOld keptAt
     old-ok = record { filled = filled-grows (filled-none 4) (keep-grows noOlds (banks l h) (Bank7E 0)) (omega arith); fits = omega arith }
 
-    at-7e : (byte : ℕ) → writeAt (worldOf (start l h e)) 0x7E 0 byte .core .olds ≡ pushOld noOlds old
+    pub at-7e : (byte : ℕ) → writeAt (worldOf (start l h e)) 0x7E 0 byte .core .olds ≡ pushOld noOlds old
     unfolding writeAt opened keptAt routeOf placeOf
     at-7e byte = refl
 
@@ -65,8 +65,9 @@ module _ (l h e : List ℕ) (s : Sizes l h e) where
         let d = start l h e in
         let x = k ∙ write-accepted [] d (start-lent s [] (omega arith)) 0x7E 0 byte in
         let next = withIo (powerOnMachine 264) (writeAt (worldOf d) 0x7E 0 byte .core .io) in
-        let by = ap (λ (o : Olds). noted (d .bench) (d .entries) next o .entries) (at-7e byte) in
-        entry-tied d (pushOld noOlds old) start-fits start-ok old-ok room next ((λ i. x i .desk .entries) ∙ by)
+        let sum = follows (d .bench .sum) (d .ram) (writeAt (worldOf d) 0x7E 0 byte .ram) in
+        let by = ap (λ (o : Olds). noted (d .bench) (d .entries) next o sum .entries) (at-7e byte) in
+        entry-tied d (pushOld noOlds old) start-fits start-ok old-ok room next sum ((λ i. x i .desk .entries) ∙ by)
 
     one-old : pushOld noOlds old .count ≡ 1
     unfolding pushOld

@@ -10,3 +10,4 @@ pub mod WrongFiles
 pub mod Runs
 pub mod Backs
 pub mod Accesses
+pub mod Sums

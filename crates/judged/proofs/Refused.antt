@@ -57,8 +57,9 @@ back-leaves d =
     let e = decodeAt (d .entries) (before (capacity (d .bench .length)) (d .bench .slot)) in
     pick-elim (PlainLeaves d) (eqb (backNumber (lentOf d 0) (d .bench .kept) (e .ok)) 0) (λ q. absurd (q refl)) (λ q. refl)
 
--- a refused fresh: power-on values with bit cycles 1 and record length 0
-pub fresh-leaves : (length bitcycles : ℕ) → let o = freshCall length bitcycles in o .number ≢ 0 → o .bench ≡ emptyBench 0 1
+-- a refused fresh: power-on values with bit cycles 1, record length 0 and sum 0
+pub fresh-leaves : (low high : List ℕ) (room bitcycles : ℕ) → let o = freshCall low high room bitcycles in o .number ≢ 0 → o .bench ≡ emptyBench 0 1 0
 unfolding freshCall
-fresh-leaves length bitcycles =
-    pick-elim (λ (o : Answer). o .number ≢ 0 → o .bench ≡ emptyBench 0 1) (eqb (freshNumber length bitcycles) 0) (λ q. absurd (q refl)) (λ q. refl)
+fresh-leaves low high room bitcycles =
+    pick-elim (λ (o : Answer). o .number ≢ 0 → o .bench ≡ emptyBench 0 1 0) (eqb (freshNumber (length low) (length high) room bitcycles) 0)
+    (λ q. absurd (q refl)) (λ q. refl)

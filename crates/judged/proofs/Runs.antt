@@ -39,6 +39,7 @@ start-ready l h e s f g = record {
   fresh = refl;
   slot-in = omega arith;
   kept-in = omega arith;
+  summed = refl;
 }
 
 module _ (rom : List ℕ) (f : Bytes rom) (short : length rom ≤ 4194304) where

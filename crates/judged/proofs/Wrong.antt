@@ -1,17 +1,18 @@
 -- Two wrong answers for each public call of the bench that its contract rules out (more stand in Rejected and Counts).
 use Prim.Native.Nat.{ℕ}
-use mathlib.Core.Bool.{Bool, false}
+use mathlib.Core.Bool.{Bool, true, false, not, _||_}
 use mathlib.Core.List.{List, [], _∷_}
-use mathlib.Core.Logic.{_≢_}
+use mathlib.Core.Logic.{_≢_, _⊎_, inl, inr}
 use mathlib.Core.Path.{_≡_, refl, sym, ap, _∙_}
 use native.Mathlib.Omega.{arith}
+use lib.Dec.{eqb}
 use lib.ListN.{length, getD}
 use lib.Seq.{length-take-le}
 use Rattle.bench.specs.Calls.{desk, lentOf, CycleOut, cycleOut, cycleCall, ReadOut, readOut, readCall, WriteOut, writeOut, writeCall, PlainOut, plainOut, hosted, padCall, plugCall, answerCall, backCall, freshCall}
 use Rattle.bench.specs.Host.{padSet, plugSet, answerSet}
 use Rattle.bench.specs.Page.{pageCall}
 use Rattle.ring.specs.Slots.{noted}
-use Rattle.ring.specs.Refusal.{cycleNumber, portNumber, addressNumber, backNumber, freshNumber, lookNumber}
+use Rattle.ring.specs.Refusal.{banksOff, cycleNumber, portNumber, addressNumber, backNumber, freshNumber, lookNumber}
 use Rattle.bench.specs.declared.{operate.Answer.Answer, operate.CycleAnswer.CycleAnswer, operate.ReadAnswer.ReadAnswer}
 use Rattle.bench.specs.declared.operate.WriteAnswer.{WriteAnswer}
 use Rattle.bus.specs.{Access.opened, Route.costOf, Route.routeOf, View.mdmaenOf, View.hdmaenOf}
@@ -27,20 +28,50 @@ use Rattle.signals.specs.AutoJoypad.{autoStep}
 
 -- ---- fresh
 
--- bit cycles 4,097 accepted
-pub fresh-4097 : {r : Answer} → r ≡ freshCall entrySize 4097 → r .number ≢ 0
-unfolding freshCall freshNumber
-fresh-4097 k z = omega (arith, sym (ap (λ (o : Answer). o .number) k) ∙ z)
+or-true : (b : Bool) → (b || true) ≡ true
+or-true true = refl
+or-true false = refl
 
--- the shortest record with the least bit cycles refused
-pub fresh-256 : {r : Answer} → r ≡ freshCall entrySize 1 → r .number ≢ 2
-unfolding freshCall freshNumber
-fresh-256 k z = omega (arith, sym (ap (λ (o : Answer). o .number) k) ∙ z)
+module _ (l h : List ℕ) where
+  -- a bank of 65,535 accepted
+  short : (length l ≡ 65535) ⊎ (length h ≡ 65535) → banksOff (length l) (length h) ≡ true
+  short (inl low) = rw low refl
+  short (inr high) = rw high (or-true (not (eqb (length l) 65536)))
 
--- a refused fresh that keeps the bit cycles given
-pub fresh-kept-bits : {r : Answer} → r ≡ freshCall entrySize 4097 → r .bench .machine .board .bitcycles ≢ 4097
-unfolding freshCall freshNumber powerOnMachine
-fresh-kept-bits k z = omega (arith, sym (ap (λ (o : Answer). o .bench .machine .board .bitcycles) k) ∙ z)
+  pub fresh-65535 : (length l ≡ 65535) ⊎ (length h ≡ 65535) → {r : Answer} → r ≡ freshCall l h entrySize 1 → r .number ≢ 0
+  unfolding freshCall freshNumber
+  fresh-65535 s k z =
+      let n : freshCall l h entrySize 1 .number ≡ 1 = rw (short s) refl in
+      omega (arith, sym (ap (λ (o : Answer). o .number) k ∙ n) ∙ z)
+
+  module _ (low : length l ≡ 65536) (high : length h ≡ 65536) {r : Answer} where
+    -- bit cycles 4,097 accepted
+    pub fresh-4097 : r ≡ freshCall l h entrySize 4097 → r .number ≢ 0
+    unfolding freshCall freshNumber
+    fresh-4097 k z =
+        let n : freshCall l h entrySize 4097 .number ≡ 10 = rw (low, high) refl in
+        omega (arith, sym (ap (λ (o : Answer). o .number) k ∙ n) ∙ z)
+
+    -- the shortest record with the least bit cycles refused
+    pub fresh-256 : r ≡ freshCall l h entrySize 1 → r .number ≢ 2
+    unfolding freshCall freshNumber
+    fresh-256 k z =
+        let n : freshCall l h entrySize 1 .number ≡ 0 = rw (low, high) refl in
+        omega (arith, sym (ap (λ (o : Answer). o .number) k ∙ n) ∙ z)
+
+    -- a refused fresh that keeps the bit cycles given
+    pub fresh-kept-bits : r ≡ freshCall l h entrySize 4097 → r .bench .machine .board .bitcycles ≢ 4097
+    unfolding freshCall freshNumber powerOnMachine
+    fresh-kept-bits k z =
+        let n : freshCall l h entrySize 4097 .bench .machine .board .bitcycles ≡ 1 = rw (low, high) refl in
+        omega (arith, sym (ap (λ (o : Answer). o .bench .machine .board .bitcycles) k ∙ n) ∙ z)
+
+    -- a refused fresh with a sum
+    pub fresh-kept-sum : (n : ℕ) → n ≢ 0 → r ≡ freshCall l h entrySize 4097 → r .bench .sum ≢ n
+    unfolding freshCall freshNumber
+    fresh-kept-sum n some k z =
+        let none : freshCall l h entrySize 4097 .bench .sum ≡ 0 = rw (low, high) refl in
+        some (sym z ∙ ap (λ (o : Answer). o .bench .sum) k ∙ none)
 
 lent : (l h e : List ℕ) → Sizes l h e → lentOf (start l h e) 0 ≡ 0
 lent l h e s = start-lent s [] (omega arith)

@@ -6,6 +6,7 @@ use mathlib.Core.Path.{_≡_}
 use lib.ListN.{length}
 use Rattle.bench.specs.Calls.{Desk, desk, cycleCall, emptyBench}
 use Rattle.layout.specs.Layout.{entrySize}
+use Rattle.wram.specs.{Banks.banks, Sum.ramSum}
 
 -- how long a record of two slots is
 abbrev pub twoSlots : ℕ
@@ -19,7 +20,7 @@ pub record Sizes (l h e : List ℕ) : Type 0 where
 
 -- the desk that fresh gives
 abbrev pub start : List ℕ → List ℕ → List ℕ → Desk
-start l h e = desk (emptyBench twoSlots 264) l h e
+start l h e = desk (emptyBench twoSlots 264 (ramSum (banks l h))) l h e
 
 -- cycle after cycle, each lent what the last left: what the contract lets any core leave, whatever it remembers of earlier calls
 abbrev pub Run : List ℕ → (ℕ → ℕ) → (ℕ → Bool) → (ℕ → Bool) → (ℕ → Desk) → Type 0

@@ -2,9 +2,8 @@
 use crate::changes::changes;
 use crate::changes::differ;
 use crate::form::Listed;
-use crate::form::Stand;
 use crate::form::listed_of;
-use crate::form::stand_of;
+use crate::form::machine_of;
 use crate::lay::BANK;
 use crate::lay::RECORD;
 use crate::lay::lay_bank;
@@ -12,13 +11,13 @@ use crate::lay::lay_record;
 use crate::made::Made;
 use crate::made::lend;
 use crate::made::up_to;
-use crate::text::number;
-use crate::text::spaced;
 use append::number::hex_byte;
 use append::number::hex_word;
 use append::number::hexes;
 use append::push_byte;
 use append::put;
+use asbytes::MACHINE_SIZE;
+use asbytes::bytes::head_bytes;
 use bench::page::page_look;
 use bus::access::Access;
 use bus::access::Log;
@@ -35,6 +34,12 @@ pub struct Told {
     pub end: usize,
 }
 
+// A byte behind a space.
+fn spaced(line: &mut [u8], at: usize, b: u8) -> usize {
+    let a = push_byte(line, at, b' ');
+    hex_byte(line, a, b)
+}
+
 // Call, number, held, edge, byte and cost, each in two digits.
 fn numbers(line: &mut [u8], kind: u8, n: [u8; 5]) -> usize {
     let a = hex_byte(line, 0, kind);
@@ -45,32 +50,20 @@ fn numbers(line: &mut [u8], kind: u8, n: [u8; 5]) -> usize {
     spaced(line, e, n[4])
 }
 
-// Next slot, kept and record length.
-fn counts(line: &mut [u8], at: usize, c: [usize; 3]) -> usize {
-    let x = number(line, at, c[0]);
-    let y = number(line, x, c[1]);
-    number(line, y, c[2])
-}
-
 fn opening(line: &mut [u8], kind: u8, m: Made) -> usize {
     let n = m.numbers;
-    let end = numbers(line, kind, n);
-    let after = m.after;
-    let c = after.counts;
-    counts(line, end, c)
+    numbers(line, kind, n)
 }
 
-// New bytes of the image.
-fn image(line: &mut [u8], at: usize, before: Stand, m: Made) -> usize {
+// New bytes of the machine.
+fn machine(line: &mut [u8], at: usize, before: [u8; MACHINE_SIZE], m: Made) -> usize {
     let after = m.after;
-    let a = before.image;
-    let b = after.image;
-    changes(line, at, b'i', false, &a, &b)
+    changes(line, at, b'm', 3, &before, &after)
 }
 
 // New bytes of a bank.
 fn bank(line: &mut [u8], at: usize, name: u8, before: &[u8; BANK], after: &[u8; BANK]) -> usize {
-    changes(line, at, name, true, before, after)
+    changes(line, at, name, 6, before, after)
 }
 
 // A slot that was written: its number, and where it differs from the image before.
@@ -85,7 +78,7 @@ fn part(
     if differ(before, after) {
         let a = put(line, at, b" e");
         let b = hex_byte(line, a, n);
-        return changes(line, b, b'o', false, &image, after);
+        return changes(line, b, b'o', 2, &image, after);
     }
     at
 }
@@ -113,11 +106,11 @@ fn slot(
 fn slots(
     line: &mut [u8],
     at: usize,
-    s: Stand,
+    s: [u8; MACHINE_SIZE],
     before: &[u8; RECORD],
     after: &[u8; RECORD],
 ) -> usize {
-    let image = s.image;
+    let image = head_bytes(&s);
     let a = slot(line, at, 0, image, before, after);
     let b = slot(line, a, 1, image, before, after);
     let c = slot(line, b, 2, image, before, after);
@@ -187,17 +180,13 @@ fn looked<'a>(line: &mut [u8], at: usize, l: Listed, low: &'a [u8], high: &'a [u
     hexes(line, a, b"", bytes)
 }
 
-// All stayed where the line is bare of changes, the counts are those given, and there is no flag, byte or cost.
-fn weighed(m: Made, before: Stand, bare: bool, end: usize) -> Told {
+// All stayed where the line is bare of changes, and there is no flag, byte or cost.
+fn weighed(m: Made, bare: bool, end: usize) -> Told {
     let n = m.numbers;
-    let after = m.after;
-    let c = after.counts;
-    let given = before.counts;
     let silent = (n[1] == 0) & (n[2] == 0) & (n[3] == 0) & (n[4] == 0);
-    let same = (c[0] == given[0]) & (c[1] == given[1]) & (c[2] == given[2]);
     Told {
         number: n[0],
-        still: bare & silent & same,
+        still: bare & silent,
         end: end,
     }
 }
@@ -205,7 +194,7 @@ fn weighed(m: Made, before: Stand, bare: bool, end: usize) -> Told {
 // Makes the call, and writes its line.
 pub fn answer(head: &[u8], newest: &[u8], rom: &[u8], line: &mut [u8; LINE]) -> Told {
     let l = listed_of(head);
-    let s = stand_of(head);
+    let s = machine_of(head);
     let mut low = [0u8; BANK];
     let mut high = [0u8; BANK];
     let mut entries = [0u8; RECORD];
@@ -217,12 +206,12 @@ pub fn answer(head: &[u8], newest: &[u8], rom: &[u8], line: &mut [u8; LINE]) -> 
     let entries0 = entries;
     let m = lend(s, l, &mut low, &mut high, &mut entries, rom);
     let bare = opening(line, l.kind, m);
-    let e1 = image(line, bare, s, m);
+    let e1 = machine(line, bare, s, m);
     let e2 = bank(line, e1, b'l', &low0, &low);
     let e3 = bank(line, e2, b'h', &high0, &high);
     let e4 = slots(line, e3, s, &entries0, &entries);
     let e5 = logged(line, e4, m);
     let e6 = look(line, e5, l, &low, &high);
     let end = push_byte(line, e6, b'\n');
-    weighed(m, s, bare == e6, end)
+    weighed(m, bare == e6, end)
 }

@@ -1,21 +1,27 @@
 // What is new in a row of bytes: places and bytes.
+use append::number::glyph;
 use append::number::hex_byte;
 use append::number::hex_word;
 use append::push_byte;
 
-// ` i19=14`: a name, the place and the new byte; a wide place has six digits, another two.
-fn change(line: &mut [u8], at: usize, name: u8, wide: bool, place: usize, byte: u8) -> usize {
+// ` m019=14`: a name, the place in so many digits, and the new byte.
+fn change(line: &mut [u8], at: usize, name: u8, width: u8, place: usize, byte: u8) -> usize {
     let a = push_byte(line, at, b' ');
     let b = push_byte(line, a, name);
-    let c = digits(line, b, wide, place);
+    let c = digits(line, b, width, place);
     let d = push_byte(line, c, b'=');
     hex_byte(line, d, byte)
 }
 
-fn digits(line: &mut [u8], at: usize, wide: bool, place: usize) -> usize {
-    if wide {
+// A place in six digits, three or two.
+fn digits(line: &mut [u8], at: usize, width: u8, place: usize) -> usize {
+    if width == 6 {
         let a = hex_byte(line, at, (place / 65536 % 256) as u8);
         return hex_word(line, a, (place % 65536) as u16);
+    }
+    if width == 3 {
+        let a = push_byte(line, at, glyph((place / 256 % 16) as u8));
+        return hex_byte(line, a, (place % 256) as u8);
     }
     hex_byte(line, at, (place % 256) as u8)
 }
@@ -25,7 +31,7 @@ fn change_at(
     line: &mut [u8],
     at: usize,
     name: u8,
-    wide: bool,
+    width: u8,
     before: &[u8],
     after: &[u8],
     i: usize,
@@ -34,7 +40,7 @@ fn change_at(
         return at;
     }
     if i < after.len() {
-        return change(line, at, name, wide, i, after[i]);
+        return change(line, at, name, width, i, after[i]);
     }
     at
 }
@@ -54,14 +60,14 @@ pub fn changes(
     line: &mut [u8],
     at: usize,
     name: u8,
-    wide: bool,
+    width: u8,
     before: &[u8],
     after: &[u8],
 ) -> usize {
     let mut end = at;
     let mut i = 0;
     while i < after.len() {
-        let next = change_at(line, end, name, wide, before, after, i);
+        let next = change_at(line, end, name, width, before, after, i);
         end = next;
         i += 1;
     }

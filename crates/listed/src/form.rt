@@ -1,4 +1,6 @@
-// The 304 bytes of a listed call: a machine's image, the numbers beside it, lengths lent, the call, the fill and patches.
+// The bytes of a listed call: the machine's as the library has them; then the lengths lent, the call, the fill and patches.
+use asbytes::MACHINE_SIZE;
+use asbytes::bytes::head_bytes;
 use benchfile::row::Row;
 use decode::machine_at;
 use fields::part::part;
@@ -6,11 +8,18 @@ use fields::put;
 use fields::word::byte;
 use fields::word::four;
 use fields::word::two;
-use layout::IMAGE_SIZE;
 use ring::Bench;
 
+// Where the lengths lent, the call, the fill and the patches start.
+pub const LENT: usize = MACHINE_SIZE;
+
+pub const CALL: usize = LENT + 16;
+
+pub const FILL: usize = CALL + 5;
+
+pub const PATCHES: usize = FILL + 17;
 // How many bytes a listed call has.
-pub const HEAD: usize = 304;
+pub const HEAD: usize = PATCHES + 32;
 
 // The lengths lent, and the call.
 pub struct Listed {
@@ -26,43 +35,30 @@ pub struct Listed {
 
 pub fn listed_of(head: &[u8]) -> Listed {
     Listed {
-        record: four(head, 234) as usize,
-        low: four(head, 238) as usize,
-        high: four(head, 242) as usize,
-        rom: four(head, 246) as usize,
-        kind: byte(head, 250),
-        first: byte(head, 251),
-        word: two(head, 252),
-        last: byte(head, 254),
+        record: four(head, LENT) as usize,
+        low: four(head, LENT + 4) as usize,
+        high: four(head, LENT + 8) as usize,
+        rom: four(head, LENT + 12) as usize,
+        kind: byte(head, CALL),
+        first: byte(head, CALL + 1),
+        word: two(head, CALL + 2),
+        last: byte(head, CALL + 4),
     }
 }
 
-// A machine by its bytes: the image as an entry without old bytes has it; next slot, kept and record length.
-pub struct Stand {
-    pub image: [u8; IMAGE_SIZE],
-    pub counts: [usize; 3],
+pub fn machine_of(head: &[u8]) -> [u8; MACHINE_SIZE] {
+    let mut m = [0u8; MACHINE_SIZE];
+    put(&mut m, 0, part(head, 0, MACHINE_SIZE));
+    m
 }
 
-pub fn stand_of(head: &[u8]) -> Stand {
-    let mut e = [0u8; IMAGE_SIZE];
-    put(&mut e, 0, part(head, 0, 222));
-    let slot = four(head, 222) as usize;
-    let kept = four(head, 226) as usize;
-    let length = four(head, 230) as usize;
-    Stand {
-        image: e,
-        counts: [slot, kept, length],
-    }
-}
-
-pub fn bench_of(s: Stand) -> Bench {
-    let m = machine_at(s.image);
-    Bench {
-        machine: m,
-        slot: s.counts[0],
-        kept: s.counts[1],
-        length: s.counts[2],
-    }
+// The machine by value, whatever its image breaks, so that the bench itself judges it.
+pub fn bench_of(bytes: &[u8]) -> Bench {
+    let e = head_bytes(bytes);
+    let m = machine_at(e);
+    let mut b = asbytes::bytes::bench_of(bytes);
+    b.machine = m;
+    b
 }
 
 // Any call but fresh, a cycle and a page look as a row of a script.

@@ -1,5 +1,7 @@
 // What a listed call is lent, laid out: banks of a fill with patches, a record of bytes $EE, the start of one long ROM.
+use crate::form::FILL;
 use crate::form::Listed;
+use crate::form::PATCHES;
 use fields::part::part;
 use fields::put;
 use fields::word::byte;
@@ -33,15 +35,15 @@ fn lay_patch(bank: &mut [u8; BANK], which: u32, patch: u32) {
 
 // The fill, of 1 to 16 bytes, over a bank, and the patches.
 pub fn lay_bank(bank: &mut [u8; BANK], which: u32, head: &[u8]) {
-    fill_bank(bank, part(head, 256, byte(head, 255) as usize));
-    lay_patch(bank, which, four(head, 272));
-    lay_patch(bank, which, four(head, 276));
-    lay_patch(bank, which, four(head, 280));
-    lay_patch(bank, which, four(head, 284));
-    lay_patch(bank, which, four(head, 288));
-    lay_patch(bank, which, four(head, 292));
-    lay_patch(bank, which, four(head, 296));
-    lay_patch(bank, which, four(head, 300));
+    fill_bank(bank, part(head, FILL + 1, byte(head, FILL) as usize));
+    lay_patch(bank, which, four(head, PATCHES));
+    lay_patch(bank, which, four(head, PATCHES + 4));
+    lay_patch(bank, which, four(head, PATCHES + 8));
+    lay_patch(bank, which, four(head, PATCHES + 12));
+    lay_patch(bank, which, four(head, PATCHES + 16));
+    lay_patch(bank, which, four(head, PATCHES + 20));
+    lay_patch(bank, which, four(head, PATCHES + 24));
+    lay_patch(bank, which, four(head, PATCHES + 28));
 }
 
 // Bytes that no entry has; a back step's entry stands in the slot that the list names.

@@ -6,4 +6,3 @@ mod form;
 pub mod lay;
 mod made;
 pub mod next;
-mod text;

@@ -1,39 +1,36 @@
 // A listed call made on the bench. What it answers stands in bytes, whichever call it was.
 ghost use Prim.Native.Nat.{_≤_};
 use crate::form::Listed;
-use crate::form::Stand;
 use crate::form::bench_of;
 use crate::form::row_of;
 use crate::lay::BANK;
 use crate::lay::RECORD;
+use asbytes::MACHINE_SIZE;
+use asbytes::bytes::store;
 use bench::fresh::fresh;
 use bench::operate::CycleAnswer;
 use bench::operate::cycle;
 use bench::page::page_number;
 use bus::access::Log;
 use bus::access::no_log;
-use image::entry_bytes;
 use ring::Bench;
 use script::repeat::Ran;
 use script::row::run_row;
-use wram::no_olds;
 
-// Number, held, edge, byte and cost; the machine after the call; its accesses.
+// Number, held, edge, byte and cost; the machine's bytes after the call; its accesses.
 pub struct Made {
     pub numbers: [u8; 5],
-    pub after: Stand,
+    pub after: [u8; MACHINE_SIZE],
     pub log: Log,
 }
 
-fn stand(b: Bench) -> Stand {
-    let m = b.machine;
-    Stand {
-        image: entry_bytes(m, no_olds()),
-        counts: [b.slot, b.kept, b.length],
-    }
+fn bytes_of(b: Bench) -> [u8; MACHINE_SIZE] {
+    let mut m = [0u8; MACHINE_SIZE];
+    store(&mut m, b);
+    m
 }
 
-fn quiet(numbers: [u8; 5], after: Stand) -> Made {
+fn quiet(numbers: [u8; 5], after: [u8; MACHINE_SIZE]) -> Made {
     Made {
         numbers: numbers,
         after: after,
@@ -42,7 +39,7 @@ fn quiet(numbers: [u8; 5], after: Stand) -> Made {
 }
 
 fn cycle_made(r: CycleAnswer) -> Made {
-    let after = stand(r.bench);
+    let after = bytes_of(r.bench);
     let log = r.log;
     Made {
         numbers: [r.number, r.held as u8, r.edge as u8, 0, 0],
@@ -53,20 +50,20 @@ fn cycle_made(r: CycleAnswer) -> Made {
 
 // A read has its byte in A; reads and writes have their cost in B. An accepted back step counts itself in A.
 fn row_made(kind: u8, r: Ran) -> Made {
-    let after = stand(r.bench);
+    let after = bytes_of(r.bench);
     let byte = if kind == 2 { (r.a % 256) as u8 } else { 0 };
     quiet([r.number, 0, 0, byte, (r.b % 256) as u8], after)
 }
 
-fn fresh_made(l: Listed) -> Made {
-    let a = fresh(l.record, l.word);
-    let after = stand(a.bench);
+fn fresh_made(l: Listed, low: &[u8], high: &[u8]) -> Made {
+    let a = fresh(low, high, l.record, l.word);
+    let after = bytes_of(a.bench);
     quiet([a.number, 0, 0, 0, 0], after)
 }
 
 // One master cycle: event, then flags (1 line due, 2 timer).
 fn one_cycle(
-    s: Stand,
+    s: [u8; MACHINE_SIZE],
     event: u8,
     flags: u8,
     low: &mut [u8],
@@ -76,13 +73,13 @@ fn one_cycle(
 ) -> Made {
     let due = flags % 2 == 1;
     let timer = 2 <= flags;
-    let b = bench_of(s);
+    let b = bench_of(&s);
     let r = cycle(b, low, high, entries, rom, event, due, timer);
     cycle_made(r)
 }
 
 fn one_row(
-    s: Stand,
+    s: [u8; MACHINE_SIZE],
     l: Listed,
     low: &mut [u8],
     high: &mut [u8],
@@ -90,14 +87,14 @@ fn one_row(
     rom: &[u8],
 ) -> Made {
     let row = row_of(l);
-    let b = bench_of(s);
+    let b = bench_of(&s);
     let r = run_row(b, low, high, entries, rom, row);
     row_made(l.kind, r)
 }
 
 // A page look gives its number; its bytes are looked at by themselves.
 fn make(
-    s: Stand,
+    s: [u8; MACHINE_SIZE],
     l: Listed,
     low: &mut [u8],
     high: &mut [u8],
@@ -106,7 +103,7 @@ fn make(
 ) -> Made {
     let kind = l.kind;
     match kind {
-        0 => fresh_made(l),
+        0 => fresh_made(l, low, high),
         1 => one_cycle(s, l.first, l.last, low, high, entries, rom),
         8 => quiet([page_number(low, high, l.word), 0, 0, 0, 0], s),
         _ => one_row(s, l, low, high, entries, rom),
@@ -121,7 +118,7 @@ pub fn up_to(n: usize, most: usize) -> usize
 
 // Record and ROM are lent with the lengths that the list names.
 fn lend_record(
-    s: Stand,
+    s: [u8; MACHINE_SIZE],
     l: Listed,
     low: &mut [u8],
     high: &mut [u8],
@@ -135,7 +132,7 @@ fn lend_record(
 
 // And so are the banks.
 fn lend_banks(
-    s: Stand,
+    s: [u8; MACHINE_SIZE],
     l: Listed,
     low: &mut [u8],
     high: &mut [u8],
@@ -148,7 +145,7 @@ fn lend_banks(
 }
 
 pub fn lend(
-    s: Stand,
+    s: [u8; MACHINE_SIZE],
     l: Listed,
     low: &mut [u8; BANK],
     high: &mut [u8; BANK],

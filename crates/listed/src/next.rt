@@ -2,6 +2,7 @@
 use crate::answer::LINE;
 use crate::answer::Told;
 use crate::answer::answer;
+use crate::form::CALL;
 use crate::form::HEAD;
 use fields::word::byte;
 use layout::ENTRY_SIZE;
@@ -26,6 +27,6 @@ pub fn next(rom: &[u8], line: &mut [u8; LINE]) -> Told {
             end: 0,
         };
     }
-    let newest = newest_of(byte(&head, 250));
+    let newest = newest_of(byte(&head, CALL));
     answer(&head, &newest, rom, line)
 }

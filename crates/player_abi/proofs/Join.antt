@@ -55,9 +55,9 @@ pub back-by : (s l h e : List ℕ) {b : Bench} {x : Crossed} {o : PlainOut} → 
     → x ≡ plainCrossed s o → x ≡ plainCrossed s (backCall (desk (benchOf s) l h e))
 back-by s l h e p q r = crossing-by s (λ (d : Bench). backCall (desk d l h e)) (plainCrossed s) p q r
 
-pub fresh-by : {m : List ℕ} {a : Answer} (s : List ℕ) (n cycles : ℕ) → a ≡ freshCall n cycles → m ≡ stored (a .bench) s
-    → crossed (a .number) m [] [] [] [] ≡ freshCrossed s (freshCall n cycles)
-fresh-by {a = a} s n cycles p q = left-by (a .number) [] [] [] q refl ∙ ap (freshCrossed s) p
+pub fresh-by : {m : List ℕ} {a : Answer} (s l h : List ℕ) (n cycles : ℕ) → a ≡ freshCall l h n cycles → m ≡ stored (a .bench) s
+    → crossed (a .number) m [] [] [] [] ≡ freshCrossed s (freshCall l h n cycles)
+fresh-by {a = a} s l h n cycles p q = left-by (a .number) [] [] [] q refl ∙ ap (freshCrossed s) p
 
 pub page-by : {n : ℕ} {bytes out′ : List ℕ} (l h out : List ℕ) (page : ℕ) → bytes ≡ pageCall l h page → out′ ≡ patched out 0 bytes
     → n ≡ lookNumber (length l) (length h) page

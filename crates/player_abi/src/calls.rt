@@ -20,12 +20,18 @@ use inplace::onebyte::carry;
 use inplace::rest::rest;
 use way::way_of;
 
-// A machine at power-on.
+// A machine at power-on beside these banks, which are only looked at.
 #[no_mangle]
-pub extern "C" fn cloverwain_fresh(machine: &mut [u8], length: usize, bitcycles: u16) -> u8
-    ensures { λ r. ⌜ crossed r (now (machine .exit)) [] [] [] [] ≡ freshCrossed (now (machine .entry)) (freshCall length bitcycles) ⌝ }
+pub extern "C" fn cloverwain_fresh(
+    machine: &mut [u8],
+    low: &[u8],
+    high: &[u8],
+    length: usize,
+    bitcycles: u16,
+) -> u8
+    ensures { λ r. ⌜ crossed r (now (machine .exit)) [] [] [] [] ≡ freshCrossed (now (machine .entry)) (freshCall (now (low .entry)) (now (high .entry)) length bitcycles) ⌝ }
 {
-    let a = bench::fresh::fresh(length, bitcycles);
+    let a = bench::fresh::fresh(low, high, length, bitcycles);
     let b = a.bench;
     store(machine, b);
     a.number

@@ -12,23 +12,27 @@ use Rattle.benchfile.specs.declared.row.Row.{Row}
 use Rattle.script.specs.{Run.Running, Row.rowRun}
 use Rattle.append.specs.Sheet.{Sheet, puts}
 use Rattle.append.proofs.Laws.{puts-none}
-use Rattle.wording.specs.Line.{lineText}
+use Rattle.wording.specs.Line.{lineText, sumText}
 use Rattle.printout.specs.Row.{Shown, shownText, rowShown}
 use Rattle.printout.specs.Rows.{Standing, after, stepped}
-use Rattle.printout.specs.declared.{row.Show.Show, row.Show.the-variants.Nothing, row.Show.the-variants.Line}
+use Rattle.printout.specs.declared.{row.Show.Show, row.Show.the-variants.Nothing, row.Show.the-variants.Line, row.Show.the-variants.Sum}
 
 -- what is shown of a row
-module _ (s : Sheet) {show : Show} (row kind number a b : ℕ) where
-  pub shown-none : show ≡ Nothing → s ≡ puts s (shownText show row kind number a b)
+module _ (s : Sheet) {show : Show} (row kind number a b sum : ℕ) where
+  pub shown-none : show ≡ Nothing → s ≡ puts s (shownText show row kind number a b sum)
   unfolding shownText
   shown-none p = cc (puts-none s)
 
-  pub shown-line : {t : Sheet} → show ≡ Line → t ≡ puts s (lineText row kind number a b) → t ≡ puts s (shownText show row kind number a b)
+  pub shown-line : {t : Sheet} → show ≡ Line → t ≡ puts s (lineText row kind number a b) → t ≡ puts s (shownText show row kind number a b sum)
   unfolding shownText
   shown-line p q = cc
 
+  pub shown-sum : {t : Sheet} → show ≡ Sum → t ≡ puts s (sumText row sum) → t ≡ puts s (shownText show row kind number a b sum)
+  unfolding shownText
+  shown-sum p q = cc
+
 pub row-joined : (rom row : List ℕ) (number : ℕ) (show : Show) (d : Desk) (t : Sheet) {says : Row} {kind : ℕ} {r : Running} {u : Sheet} → says ≡ rowOf row → kind ≡ byteAt row 0
-    → r ≡ rowRun rom says d → u ≡ puts t (shownText show number kind (r .number) (r .a) (r .b)) → _≡_ {A = Shown} (record { ran = r; out = u }) (rowShown rom row number show d t)
+    → r ≡ rowRun rom says d → u ≡ puts t (shownText show number kind (r .number) (r .a) (r .b) (r .desk .bench .sum)) → _≡_ {A = Shown} (record { ran = r; out = u }) (rowShown rom row number show d t)
 unfolding rowShown
 row-joined rom row number show d t p q e f = cc
 

@@ -1,3 +1,4 @@
 pub mod Join
 pub mod Most
 pub mod Whole
+pub mod Sums

@@ -8,19 +8,21 @@ use native.Mathlib.Omega.{arith}
 use lib.Dec.{leb, eqb}
 use lib.ListN.{length}
 use borrow.Author.Tests.{leb-true, leb-false, le-leb, lt-leb, eq-eqb, ne-eqb}
+use Rattle.common.proofs.TableLaws.{pick-elim}
 use Rattle.common.specs.Pick.{pick}
 use Rattle.ring.specs.declared.Bench.{Bench}
 use Rattle.bench.specs.Calls.{desk}
-use Rattle.benchfile.specs.{File.bodyOf, Row.rowBytes, Row.rowOf}
+use Rattle.benchfile.specs.{File.bodyOf, File.fileCheck, Row.rowBytes, Row.rowOf}
 use Rattle.script.specs.{Run.Running, Row.rowRun}
 use Rattle.append.specs.Sheet.{sheet, puts, shownOf}
 use Rattle.append.proofs.Laws.{puts-room}
-use Rattle.start.specs.Start.{refusalOf, startRun}
+use Rattle.ring.specs.Refusal.{alsoOf}
+use Rattle.start.specs.Start.{madeFor, refusalOf, Starting, startRun}
 use Rattle.printout.specs.Row.{textOf, rowShown}
 use Rattle.wording.specs.Line.{lineText, refusedText}
 use Rattle.printout.specs.Rows.{Standing, start, after, stepped, steps}
-use Rattle.printout.specs.declared.{row.Show.Show, row.Show.the-variants.Line}
-use Rattle.printout.specs.Trace.{linesFrom, restOf, wholeOf, zeros, traceText}
+use Rattle.printout.specs.declared.{row.Show.Show, row.Show.the-variants.Line, row.Show.the-variants.Sum}
+use Rattle.printout.specs.Trace.{linesFrom, restOf, wholeOf, zeros, rowsText, traceText, sumsText}
 use Rattle.printout.proofs.Most.{line-most, shown-most}
 
 module _ (rom script : List ℕ) (show : Show) where
@@ -43,7 +45,7 @@ module _ (rom script : List ℕ) (show : Show) where
       let x = rowRun rom (rowOf row) (s .desk) in
       let line = textOf show (s .next + 1) row x in
       let old = shownOf (s .out) in
-      let m : length line ≤ 105 = shown-most show _ _ _ _ _ in
+      let m : length line ≤ 105 = shown-most show _ _ _ _ _ _ in
       let g = puts-room line (s .out .text) (s .out .at) (omega arith) in
       ap (λ (l : List ℕ). l ++ restAfter s x) (g .0) ∙ append-assoc old line (restAfter s x) ∙ ap (λ (l : List ℕ). old ++ l) (sym (rest-line s n z))
 
@@ -86,20 +88,52 @@ module _ (rom script : List ℕ) (show : Show) where
       let l : t .next ≤ stepped rom script show t .next = onward-by t _ _ _ refl refl refl in
       omega arith
 
--- a file that can be run: the text of its rows from the first, on what `begin` leaves
-pub trace-starts : (f : List ℕ) → refusalOf f ≡ 0
-    → let s = startRun f zeros zeros in
-    traceText f ≡ linesFrom (bodyOf f 2) (bodyOf f 3) Line (length (bodyOf f 3) / 8 - 0) 0 (desk (s .start .bench) (s .low) (s .high) zeros)
-unfolding traceText startRun
-trace-starts f z =
-    let n = length (bodyOf f 3) / 8 in
-    let k : n - 0 ≡ n = omega arith in
-    rw (eq-eqb (refusalOf f) 0 z, k) refl
+-- neither of two numbers refuses
+pub neither : (first second : ℕ) → alsoOf first second ≡ 0 → (first ≡ 0) × (second ≡ 0)
+neither zero second z = (refl, z)
+neither (suc n) second z = let k : suc n ≡ 0 = rw (ne-eqb (suc n) 0 (λ e. omega (arith, e))) at z in absurd (omega (arith, k))
 
--- a file that cannot be run: its only line
-pub trace-refused : (f l h out : List ℕ) → (refusalOf f ≡ 0 → ⊥) → 105 ≤ length out
-    → shownOf (puts (sheet out 0) (lineText 0 0 (startRun f l h .start .number) 0 0)) ≡ traceText f
-unfolding traceText startRun refusedText
-trace-refused f l h out z r =
-    let m = line-most 0 0 (refusalOf f) 0 0 in
-    rw (ne-eqb (refusalOf f) 0 z) (puts-room (lineText 0 0 (refusalOf f) 0 0) out 0 (omega arith) .0)
+module _ (f : List ℕ) where
+  abbrev number : ℕ
+  number = refusalOf f zeros zeros
+
+  abbrev begun : Starting
+  begun = startRun f zeros zeros
+
+  -- what is shown of the rows from the first, on what `begin` leaves
+  abbrev begunText : Show → List ℕ
+  begunText show = linesFrom (bodyOf f 2) (bodyOf f 3) show (length (bodyOf f 3) / 8 - 0) 0 (desk (begun .start .bench) (begun .low) (begun .high) zeros)
+
+  -- a file that can be run
+  module _ (z : number ≡ 0) where
+    rows-start : (show : Show) → rowsText show f ≡ begunText show
+    unfolding startRun refusalOf
+    rows-start show =
+        let n = length (bodyOf f 3) / 8 in
+        let k : n - 0 ≡ n = omega arith in
+        rw (eq-eqb number 0 z, eq-eqb (fileCheck f) 0 (neither (fileCheck f) (madeFor f zeros zeros .number) z .0), k) refl
+
+    pub trace-starts : traceText f ≡ begunText Line
+    unfolding traceText
+    trace-starts = rw (eq-eqb number 0 z) (rows-start Line)
+
+    pub sums-start : sumsText f ≡ begunText Sum
+    unfolding sumsText
+    sums-start = rw (eq-eqb number 0 z) (rows-start Sum)
+
+  -- one that cannot be run: its only line, and no sum
+  module _ (z : number ≡ 0 → ⊥) where
+    start-number : begun .start .number ≡ number
+    unfolding startRun
+    start-number = pick-elim (λ (x : Starting). x .start .number ≡ number) (eqb (fileCheck f) 0) (rw (ne-eqb number 0 z) refl) (rw (ne-eqb number 0 z) refl)
+
+    pub trace-refused : (out : List ℕ) → 105 ≤ length out → shownOf (puts (sheet out 0) (lineText 0 0 (begun .start .number) 0 0)) ≡ traceText f
+    unfolding traceText refusedText
+    trace-refused out r =
+        let m = line-most 0 0 number 0 0 in
+        rw (ne-eqb number 0 z)
+        (ap (λ (n : ℕ). shownOf (puts (sheet out 0) (lineText 0 0 n 0 0))) start-number ∙ puts-room (lineText 0 0 number 0 0) out 0 (omega arith) .0)
+
+    pub sums-refused : sumsText f ≡ []
+    unfolding sumsText
+    sums-refused = rw (ne-eqb number 0 z) refl

@@ -10,11 +10,13 @@ use ring::Bench;
 use script::repeat::Ran;
 use script::row::run_row;
 use wording::line::append_line;
+use wording::line::append_sum;
 
 // What is shown of a row.
 pub enum Show {
     Nothing,
     Line,
+    Sum,
 }
 
 // What a row has come to, and how many bytes of the buffer are text with what is shown of it.
@@ -32,12 +34,14 @@ fn put_shown(
     number: u8,
     a: u32,
     b: u32,
+    sum: u32,
 ) -> usize
-    ensures { λ r. ⌜ sheet (now (out .exit)) r ≡ puts (sheet (now (out .entry)) used) (shownText show row kind number a b) ⌝ }
+    ensures { λ r. ⌜ sheet (now (out .exit)) r ≡ puts (sheet (now (out .entry)) used) (shownText show row kind number a b sum) ⌝ }
 {
     match show {
         Show::Nothing => used,
         Show::Line => append_line(out, used, row, kind, number, a, b),
+        Show::Sum => append_sum(out, used, row, sum),
     }
 }
 
@@ -59,6 +63,7 @@ pub fn run_line(
     let says = row_of(row);
     let kind = byte(row, 0);
     let r = run_row(b, low, high, entries, rom, says);
-    let end = put_shown(out, used, show, number, kind, r.number, r.a, r.b);
+    let after = r.bench;
+    let end = put_shown(out, used, show, number, kind, r.number, r.a, r.b, after.sum);
     Lined { ran: r, used: end }
 }

@@ -1,4 +1,4 @@
-// The rows of a script one by one: for a page all of them, for a trace as many as a buffer takes the lines of.
+// The rows of a script one by one: for a page all of them, for a trace or the sums as many as a buffer takes the lines of.
 ghost use mathlib.Core.Path.{_≡_};
 ghost use Prim.Native.Nat.{_/_};
 ghost use denote.Ref.{now};

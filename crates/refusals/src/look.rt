@@ -12,9 +12,18 @@ use fields::word::byte;
 use fields::word::four;
 use fields::word::two;
 
-// Record length and bit cycles are given. The line says the number, and bit cycles, record length, next slot and kept of what fresh gave.
+// The lengths of both banks, record length and bit cycles are given. Every byte lent is $A5, but for the first of $7F. The line says the
+// number, and bit cycles, record length, next slot, kept and sum of what fresh gave.
 pub fn fresh_tried(given: &[u8]) -> bool {
-    let a = fresh(four(given, 0) as usize, two(given, 4));
+    let low = [0xA5u8; 65537];
+    let mut high = [0xA5u8; 65537];
+    high[0] = 0x5A;
+    let a = fresh(
+        part(&low, 0, four(given, 0) as usize),
+        part(&high, 0, four(given, 4) as usize),
+        four(given, 8) as usize,
+        two(given, 12),
+    );
     say_fresh(a)
 }
 
@@ -29,6 +38,7 @@ fn say_fresh(a: Answer) -> bool {
     say_named(b", record length ", b.length);
     say_named(b", slot ", b.slot);
     say_named(b", kept ", b.kept);
+    say_named(b", sum ", b.sum as usize);
     say(b"\n")
 }
 

@@ -25,7 +25,8 @@ use Rattle.rewind.specs.Promise.{Sound}
 use Rattle.rewind.specs.Rules.{Op, cycle, read, write, pad, plug, answer, Typed, Done, changed, obeyed}
 use Rattle.rewind.specs.Run.{operation, back, Reply, called, stateOf}
 use Rattle.state.specs.declared.Machine.{Machine}
-use Rattle.wram.specs.{Banks.Banks, Olds.noOlds}
+use Rattle.wram.proofs.SumLaws.{follow-none, follow-true, sum-below}
+use Rattle.wram.specs.{Banks.Banks, Olds.noOlds, Sum.ramSum, Sum.follows}
 
 -- what the table still refuses where everything lent is sound: 5, 6 and 7
 abbrev pub numberOf : Op → Machine → ℕ
@@ -47,6 +48,7 @@ pub record SoundDesk (len : ℕ) (d : Desk) : Type 0 where
   pub fresh : d .bench .length ≡ len
   pub slot-in : d .bench .slot < capacity len
   pub kept-in : d .bench .kept ≤ capacity len
+  pub summed : d .bench .sum ≡ ramSum (d .ram)
 
 -- nothing lent is refused
 pub lent-sound : (len rom : ℕ) (d : Desk) → 0 < len → len % entrySize ≡ 0 → rom ≤ 4194304 → SoundDesk len d → lentOf d rom ≡ 0
@@ -80,11 +82,16 @@ write-reply r = record { number = r .number; desk = r .desk }
 abbrev host-reply : Banks → Hosting → Reply
 host-reply ram x = let r = onBanks ram x in record { number = r .number; desk = r .desk }
 
-module _ (rom : List ℕ) (d : Desk) (sound : lentOf d (length rom) ≡ 0) where
+module _ (rom : List ℕ) (d : Desk) (sound : lentOf d (length rom) ≡ 0) (summed : d .bench .sum ≡ ramSum (d .ram)) where
+  -- the host leaves work RAM and its sum
+  same-sum : d .bench .sum ≡ follows (d .bench .sum) (d .ram) (d .ram)
+  same-sum = sym (follow-none (d .bench .sum) (d .ram) (rw summed (sum-below (d .ram))))
+
   host-called : (n : ℕ) (m : Machine) → host-reply (d .ram) (hosted (d .bench) (d .entries) n m) ≡ reply n d (changed (stateOf d) m)
   unfolding hosted
   host-called n m =
-      pick-map (host-reply (d .ram)) (eqb n 0) (record { number = 0; noted = noted (d .bench) (d .entries) m noOlds }) (record { number = n; noted = noting (d .bench) (d .entries) })
+      pick-map (host-reply (d .ram)) (eqb n 0) (record { number = 0; noted = noted (d .bench) (d .entries) m noOlds (d .bench .sum) }) (record { number = n; noted = noting (d .bench) (d .entries) })
+      ∙ (λ i. pick (eqb n 0) (host-reply (d .ram) (record { number = 0; noted = noted (d .bench) (d .entries) m noOlds (same-sum i) })) (record { number = n; desk = d }))
 
   -- an operation on a sound desk
   pub op-called : (o : Op) → called rom (operation o) d ≡ reply (numberOf o (d .bench .machine)) d (obeyed rom o (stateOf d))
@@ -123,6 +130,7 @@ op-keeps rom bytes len d s o t =
       fresh = s .fresh;
       slot-in = rw c (after-lt (capacity len) (d .bench .slot) (s .slot-in));
       kept-in = rw c (omega arith);
+      summed = ap (λ (k : ℕ). follows k (d .ram) (obeyed rom o (stateOf d) .state .ram)) (s .summed) ∙ follow-true (d .ram) (obeyed rom o (stateOf d) .state .ram);
     }
 
 module _ (rom : List ℕ) (d : Desk) (sound : lentOf d 0 ≡ 0) where

@@ -3,13 +3,18 @@ use Prim.Native.Nat.{ℕ}
 use mathlib.Core.List.{List, []}
 use mathlib.Core.Path.{refl}
 use native.Mathlib.Omega.{arith}
-use Rattle.bench.specs.Calls.{desk, emptyBench}
+use Rattle.bench.specs.Calls.{Desk, desk, emptyBench}
 use Rattle.machine.proofs.{FitLaws.power-on-fits, Ranges.power-on-ok}
 use Rattle.rewind.proofs.{Fresh.Fresh, Fresh.fresh-facts, Rewinds.Inv, Rewinds.promised}
+use Rattle.wram.specs.{Banks.banks, Sum.ramSum}
 use Rattle.rewind.specs.{Promise.Lent, Promise.Demand3, Run.stateOf}
 
-begin : (rom low high entries : List ℕ) (len bitcycles : ℕ) (L : Lent rom low high entries len) (F : Fresh len bitcycles)
-    → Inv rom (L .rom-bytes) (L .rom-most) len (F .some) (F .whole) (stateOf (desk (emptyBench len bitcycles) low high entries)) (desk (emptyBench len bitcycles) low high entries) []
+-- the desk of an accepted fresh
+abbrev first : (low high entries : List ℕ) (len bitcycles : ℕ) → Desk
+first low high entries len bitcycles = desk (emptyBench len bitcycles (ramSum (banks low high))) low high entries
+
+begin : (rom low high entries : List ℕ) (len bitcycles : ℕ) (L : Lent rom low high entries len) (F : Fresh low high len bitcycles)
+    → let d = first low high entries len bitcycles in Inv rom (L .rom-bytes) (L .rom-most) len (F .some) (F .whole) (stateOf d) d []
 begin rom low high entries len bitcycles L F = record {
   sound =
       record {
@@ -18,14 +23,15 @@ begin rom low high entries len bitcycles L F = record {
               fits = power-on-fits bitcycles (omega (arith, F .most));
               ranges = power-on-ok bitcycles (F .least) (F .most);
               low-bytes = L .low-bytes;
-              low-length = L .low-length;
+              low-length = F .low-length;
               high-bytes = L .high-bytes;
-              high-length = L .high-length;
+              high-length = F .high-length;
             };
         long = L .entries-length;
         fresh = refl;
         slot-in = omega (arith, F .some, F .whole);
         kept-in = omega arith;
+        summed = refl;
       };
   trail = refl;
   holds = tt {0};
@@ -33,7 +39,7 @@ begin rom low high entries len bitcycles L F = record {
 
 pub demand3 : Demand3
 demand3 rom low high entries len bitcycles L accepted cs t =
-    let F = fresh-facts len bitcycles accepted in
+    let F = fresh-facts low high len bitcycles accepted in
     rw (F .power-on)
-    (promised rom (L .rom-bytes) (L .rom-most) len (F .some) (F .whole) (desk (emptyBench len bitcycles) low high entries) refl refl refl
+    (promised rom (L .rom-bytes) (L .rom-most) len (F .some) (F .whole) (first low high entries len bitcycles) refl refl refl
     (begin rom low high entries len bitcycles L F) cs t)

@@ -24,7 +24,8 @@ use Rattle.rewind.specs.History.{rest, survive, survivorsFrom, survivors
 use Rattle.rewind.specs.Promise.{Sound, Rewound}
 use Rattle.rewind.specs.Rules.{Op, Typed, State, Done, obeyed, obeyedAll}
 use Rattle.rewind.specs.Run.{Call, operation, back, TypedCall, Reply, called, deed, run, deeds, stateOf}
-use Rattle.wram.specs.Olds.{putBack}
+use Rattle.wram.proofs.SumLaws.{follow-true}
+use Rattle.wram.specs.{Olds.putBack, Sum.follows}
 
 -- an accepted operation, and the state that it met
 pub record Past : Type 0 where
@@ -205,7 +206,7 @@ module _ (rom : List ℕ) (bytes : Bytes rom) (small : length rom ≤ 4194304) (
     lent-none n h = lent-sound len n d pos whole h (I .sound)
 
     operation-onward : (o : Op) → Typed o → Onward s₀ ps (operation o) d (called rom (operation o) d)
-    operation-onward o t = rw (op-called rom d (lent-none (length rom) small) o) (op-onward o t (numberOf o (d .bench .machine)) refl)
+    operation-onward o t = rw (op-called rom d (lent-none (length rom) small) (I .sound .summed) o) (op-onward o t (numberOf o (d .bench .machine)) refl)
 
   -- a back step where k + 1 operations are kept
   strike : (s₀ : State) (d : Desk) (ps : Trace) (k : ℕ) → Inv s₀ d ps → d .bench .kept ≡ suc k → Trail s₀ ps (stateOf d) → Holds (d .entries) (d .bench .slot) (suc k) ps
@@ -234,6 +235,7 @@ module _ (rom : List ℕ) (bytes : Bytes rom) (small : length rom ≤ 4194304) (
                     fresh = S .fresh;
                     slot-in = before-lt cap (d .bench .slot) (S .slot-in);
                     kept-in = omega (arith, S .kept-in);
+                    summed = let was = putBack (entryOf p .olds) (d .ram) in ap (λ (n : ℕ). follows n (d .ram) was) (S .summed) ∙ follow-true (d .ram) was;
                   };
               trail = rw st (T .4);
               holds = rw less (H .1);
@@ -311,7 +313,7 @@ module _ (rom : List ℕ) (bytes : Bytes rom) (small : length rom ≤ 4194304) (
   run-alone s₀ d ps I [] G = refl
   run-alone s₀ d ps I (o ∷ os) G =
       let x = obeyed rom o (stateOf d) in
-      let e : called rom (operation o) d ≡ reply 0 d x = op-called rom d (lent-none s₀ d ps I (length rom) small) o ∙ ap (λ (n : ℕ). reply n d x) (G .1) in
+      let e : called rom (operation o) d ≡ reply 0 d x = op-called rom d (lent-none s₀ d ps I (length rom) small) (I .sound .summed) o ∙ ap (λ (n : ℕ). reply n d x) (G .1) in
       let N = op-taken s₀ d ps I o (G .0) (G .1) in
       ap (λ (r : Reply). stateOf (run rom (r .desk) (map operation os))) e ∙ run-alone s₀ (reply 0 d x .desk) (N .trace) (N .inv) os (G .2)
 
@@ -327,7 +329,7 @@ module _ (rom : List ℕ) (bytes : Bytes rom) (small : length rom ≤ 4194304) (
 
     call-sound : (c : Call) → TypedCall c → Sound (called rom c d .number)
     call-sound (operation o) t =
-        rw (op-called rom d (lent-none s₀ d ps I (length rom) small) o) (op-sound o (d .bench .machine) d (obeyed rom o (stateOf d)))
+        rw (op-called rom d (lent-none s₀ d ps I (length rom) small) (I .sound .summed) o) (op-sound o (d .bench .machine) d (obeyed rom o (stateOf d)))
     call-sound back t = rw (back-number (d .bench .kept) ps refl (I .holds)) (back-sound (d .bench .kept))
 
   module _ (d₀ : Desk) (fresh : d₀ .bench .length ≡ len) (slot : d₀ .bench .slot ≡ 0) (kept : d₀ .bench .kept ≡ 0) (I₀ : Inv (stateOf d₀) d₀ []) (cs : List Call) (t : AllOf TypedCall cs) where
@@ -352,5 +354,6 @@ module _ (rom : List ℕ) (bytes : Bytes rom) (small : length rom ≤ 4194304) (
           counted = sym l;
           latest = ap (map (λ p. p .op)) held ∙ placed-ops (d .bench .slot) (d .bench .kept) (E .trace) ∙ (λ i. take (sym l i) (sym live i));
           refused = back-number (stateOf d₀) d (E .trace) I (d .bench .kept) (E .trace) refl (I .holds) ∙ ap (λ (k : ℕ). pick (eqb k 0) 8 0) (sym l);
+          summed = I .sound .summed;
           sound = call-sound (stateOf d₀) d (E .trace) I;
         }

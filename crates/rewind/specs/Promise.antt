@@ -1,5 +1,6 @@
 -- Demand 3: after any run of operations and back steps from fresh, some refused, the state is exactly what demand 2's rules give
--- for the survivors alone; a back step is refused exactly when the record keeps none.
+-- for the survivors alone; a back step is refused exactly when the record keeps none. Document 02's request 2: the sum beside the machine is
+-- that of the banks.
 use Prim.Native.Nat.{ℕ, _≤_}
 use mathlib.Core.List.{List, map, reverse}
 use mathlib.Core.Logic.{_≢_}
@@ -10,21 +11,20 @@ use Rattle.bench.specs.Calls.{Desk, desk, freshCall}
 use Rattle.common.specs.{All.AllOf, Pick.pick, Width.Bytes}
 use Rattle.layout.specs.Layout.{capacity}
 use Rattle.rewind.specs.{History.survivors, History.keptOps, Rules.Op, Rules.obeyedAll}
+use Rattle.wram.specs.Sum.{ramSum}
 use Rattle.rewind.specs.Run.{Call, operation, back, TypedCall, called, run, deeds, stateOf}
 
--- what is lent: a ROM that is not too long, two whole banks with any fill, a record of fresh's length; all of them bytes
+-- what is lent: a ROM that is not too long, two banks with any fill, a record of fresh's length; all of them bytes
 pub record Lent (rom low high entries : List ℕ) (length₀ : ℕ) : Type 0 where
   pub rom-bytes : Bytes rom
   pub rom-most : length rom ≤ 4194304
   pub low-bytes : Bytes low
-  pub low-length : length low ≡ 65536
   pub high-bytes : Bytes high
-  pub high-length : length high ≡ 65536
   pub entries-length : length entries ≡ length₀
 
 -- a desk from fresh
 abbrev pub freshDesk : (length₀ bitcycles : ℕ) → (low high entries : List ℕ) → Desk
-freshDesk length₀ bitcycles low high entries = desk (freshCall length₀ bitcycles .bench) low high entries
+freshDesk length₀ bitcycles low high entries = desk (freshCall low high length₀ bitcycles .bench) low high entries
 
 -- no call is refused by 1, 2, 3, 4 or 9
 pub record Sound (number : ℕ) : Type 0 where
@@ -54,10 +54,12 @@ module _ (rom : List ℕ) (d₀ : Desk) (cs : List Call) where
     pub latest : map (λ p. p .op) (keptOps (capacity (d₀ .bench .length)) (deeds rom d₀ cs)) ≡ take kept (survivors (deeds rom d₀ cs))
     -- a back step is refused exactly where there is none, and then by 8
     pub refused : called rom back (run rom d₀ cs) .number ≡ pick (eqb kept 0) 8 0
+    -- the sum is that of all bytes in the banks
+    pub summed : run rom d₀ cs .bench .sum ≡ ramSum (run rom d₀ cs .ram)
     -- whatever call comes next
     pub sound : (c : Call) → TypedCall c → Sound (called rom c (run rom d₀ cs) .number)
 
 -- demand 3
 abbrev pub Demand3 : Type 0
 Demand3 = (rom low high entries : List ℕ) (length₀ bitcycles : ℕ) → Lent rom low high entries length₀
-    → freshCall length₀ bitcycles .number ≡ 0 → (cs : List Call) → AllOf TypedCall cs → Rewound rom (freshDesk length₀ bitcycles low high entries) cs
+    → freshCall low high length₀ bitcycles .number ≡ 0 → (cs : List Call) → AllOf TypedCall cs → Rewound rom (freshDesk length₀ bitcycles low high entries) cs

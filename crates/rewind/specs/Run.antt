@@ -52,6 +52,6 @@ module _ (rom : List ℕ) where
   deeds d [] = []
   deeds d (c ∷ cs) = deed c (called rom c d .number) ∷ deeds (called rom c d .desk) cs
 
--- demand 3's state of a desk: next slot, kept and the record are no part of it
+-- demand 3's state of a desk: next slot, kept, the sum and the record are no part of it
 abbrev pub stateOf : Desk → State
 stateOf d = record { machine = d .bench .machine; ram = d .ram }

@@ -60,9 +60,9 @@ addressNumber lent addr = pick (addressOff addr) (alsoOf lent 6) lent
 unfoldable pub backNumber : ℕ → ℕ → Bool → ℕ
 backNumber lent kept ok = pick (eqb kept 0) (alsoOf lent 8) (pick ok lent (alsoOf lent 9))
 
--- fresh: the first two parts of 2, then 10
-unfoldable pub freshNumber : ℕ → ℕ → ℕ
-freshNumber length bitcycles = pick (lengthOff length) 2 (pick (bitsOff bitcycles) 10 0)
+-- fresh: 1, the first two parts of 2, then 10
+unfoldable pub freshNumber : ℕ → ℕ → ℕ → ℕ → ℕ
+freshNumber low high length bitcycles = pick (banksOff low high) 1 (pick (lengthOff length) 2 (pick (bitsOff bitcycles) 10 0))
 
 -- page look: 1, then 12, page over 511
 unfoldable pub lookNumber : ℕ → ℕ → ℕ → ℕ

@@ -17,9 +17,9 @@ after cap slot = pick (ltb (slot + 1) cap) (slot + 1) 0
 abbrev pub before : ℕ → ℕ → ℕ
 before cap slot = pick (eqb slot 0) (cap - 1) (slot - 1)
 
--- a machine with the record's counts beside it
-abbrev pub bench : Machine → ℕ → ℕ → ℕ → Bench
-bench m slot kept length = record { machine = m; slot = slot; kept = kept; length = length }
+-- a machine with the record's counts and the sum of work RAM beside it
+abbrev pub bench : Machine → (slot kept length sum : ℕ) → Bench
+bench m slot kept length sum = record { machine = m; slot = slot; kept = kept; length = length; sum = sum }
 
 -- the machine with its counts, and the record
 pub record Noted : Type 0 where
@@ -29,7 +29,7 @@ pub record Noted : Type 0 where
 abbrev pub noting : Bench → List ℕ → Noted
 noting b e = record { bench = b; entries = e }
 
--- an accepted operation writes one entry at the next slot: the machine before it and the bytes that it overwrote
-unfoldable pub noted : Bench → List ℕ → Machine → Olds → Noted
-noted b e next olds =
-    noting (bench next (after (capacity (b .length)) (b .slot)) (min (b .kept + 1) (capacity (b .length))) (b .length)) (written e (b .slot) (b .machine) olds)
+-- an accepted operation writes one entry at the next slot: the machine before it and the bytes that it overwrote; the sum is the one after it
+unfoldable pub noted : Bench → List ℕ → Machine → Olds → (sum : ℕ) → Noted
+noted b e next olds sum =
+    noting (bench next (after (capacity (b .length)) (b .slot)) (min (b .kept + 1) (capacity (b .length))) (b .length) sum) (written e (b .slot) (b .machine) olds)

@@ -109,10 +109,13 @@ pub fn back_number(lent: u8, kept: usize, ok: bool) -> u8
     also(lent, 9)
 }
 
-// fresh tests the first two parts of 2, then 10.
-pub fn fresh_number(length: usize, bitcycles: u16) -> u8
-    ensures { λ r. ⌜ r ≡ freshNumber length bitcycles ⌝ }
+// fresh tests both banks, the first two parts of 2, then 10.
+pub fn fresh_number(low: usize, high: usize, length: usize, bitcycles: u16) -> u8
+    ensures { λ r. ⌜ r ≡ freshNumber low high length bitcycles ⌝ }
 {
+    if banks_off(low, high) {
+        return 1;
+    }
     if (length == 0) | (length % ENTRY_SIZE != 0) {
         return 2;
     }

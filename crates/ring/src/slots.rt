@@ -46,9 +46,9 @@ pub fn less_kept(kept: usize) -> usize
     if kept == 0 { 0 } else { kept - 1 }
 }
 
-// An accepted operation writes one entry at the next slot: the machine as it was, and the bytes overwritten.
-pub fn note(b: Bench, entries: &mut [u8], next: Machine, olds: Olds) -> Bench
-    ensures { λ r. ⌜ noting r (now (entries .exit)) ≡ noted b (now (entries .entry)) next olds ⌝ }
+// An accepted operation writes one entry at the next slot: the machine as it was, and the bytes overwritten. `sum` is work RAM's after it.
+pub fn note(b: Bench, entries: &mut [u8], next: Machine, olds: Olds, sum: u32) -> Bench
+    ensures { λ r. ⌜ noting r (now (entries .exit)) ≡ noted b (now (entries .entry)) next olds sum ⌝ }
 {
     let m = b.machine;
     let cap = capacity(b.length);
@@ -60,5 +60,6 @@ pub fn note(b: Bench, entries: &mut [u8], next: Machine, olds: Olds) -> Bench
         slot: slot,
         kept: kept,
         length: b.length,
+        sum: sum,
     }
 }

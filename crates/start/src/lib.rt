@@ -1,10 +1,11 @@
-// A bench file before its first row: its check, a fresh bench, the RAM fill, and where its ROM and its script are.
+// A bench file before its first row: its check, the RAM fill, a fresh bench, and where its ROM and its script are.
 pub mod fill;
 
 ghost use mathlib.Core.Path.{_≡_};
 ghost use denote.Ref.{now};
 ghost use Rattle.start.specs.Start.{spanOf, halted, started, startRun};
 use bench::fresh::fresh;
+use bench::fresh::no_bench;
 use benchfile::check::file_check;
 use benchfile::contents::body;
 use benchfile::contents::size;
@@ -38,9 +39,10 @@ fn section_span(file: &[u8], section: u8) -> Span
     }
 }
 
-fn halt(number: u8, b: Bench) -> Started
-    ensures { λ r. ⌜ r ≡ halted number b ⌝ }
+fn halt(number: u8) -> Started
+    ensures { λ r. ⌜ r ≡ halted number ⌝ }
 {
+    let b = no_bench();
     Started {
         number: number,
         bench: b,
@@ -49,23 +51,23 @@ fn halt(number: u8, b: Bench) -> Started
     }
 }
 
-// Fills both banks for a file that can be run. A broken file is refused before its bit cycles are looked at.
+// A broken file is refused before anything is filled; fresh then finds the banks as the run will.
 pub fn begin(file: &[u8], low: &mut [u8], high: &mut [u8]) -> Started
     ensures { λ r. ⌜ started r (now (low .exit)) (now (high .exit)) ≡ startRun (now (file .entry)) (now (low .entry)) (now (high .entry)) ⌝ }
 {
-    let settings = body(file, 0);
-    let made = fresh(65536, two(settings, 0));
-    let b = made.bench;
     let broken = file_check(file);
     if broken != 0 {
-        return halt(broken, b);
-    }
-    if made.number != 0 {
-        return halt(made.number, b);
+        return halt(broken);
     }
     let fill = body(file, 1);
     fill_bank(low, fill);
     fill_bank(high, fill);
+    let settings = body(file, 0);
+    let made = fresh(low, high, 65536, two(settings, 0));
+    if made.number != 0 {
+        return halt(made.number);
+    }
+    let b = made.bench;
     let rom = section_span(file, 2);
     let script = section_span(file, 3);
     Started {

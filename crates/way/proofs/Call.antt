@@ -9,7 +9,7 @@ use lib.Dec.{eqb, leb, ltb}
 use lib.ListN.{length}
 use Rattle.common.specs.{Pick.pick, Width.Bytes}
 use Rattle.asbytes.specs.Machine.{headOf, broken, machineOf, benchOf}
-use Rattle.asbytes.specs.Places.{machineSize, slotAt, countAt, lengthAt}
+use Rattle.asbytes.specs.Places.{machineSize, slotAt, countAt, lengthAt, sumAt}
 use Rattle.bench.specs.Calls.{desk, lentOf, cycleCall, cycleDone, cycleRefused}
 use Rattle.ring.specs.Refusal.{banksOff, recordOff, romOff, lentNumber, alsoOf, cycleNumber}
 use Rattle.ring.specs.Slots.{bench}
@@ -26,16 +26,16 @@ use Rattle.way.proofs.Ready.{Ready, machineIn, clock-off, seen-same}
 
 -- ---- the call
 
--- the machine with its counts
+-- the machine with its counts and its sum
 abbrev pub benchIn : List ℕ → Bench
-benchIn s = bench (machineIn s) (slotAt s) (countAt s) (lengthAt s)
+benchIn s = bench (machineIn s) (slotAt s) (countAt s) (lengthAt s) (sumAt s)
 
 module _ (s : List ℕ) (r : Ready s) where
   bench-is : benchOf s ≡ benchIn s
   unfolding benchOf machineOf
   bench-is =
       let none = r .calm .1 .1 .1 .0 in
-      λ i. bench (pick (r .ok i && none i) (machineIn s) (broken (machineIn s))) (slotAt s) (countAt s) (lengthAt s)
+      λ i. bench (pick (r .ok i && none i) (machineIn s) (broken (machineIn s))) (slotAt s) (countAt s) (lengthAt s) (sumAt s)
 
   module _ (rom l h en : List ℕ) (lent : Every (lentTests (length l) (length h) (length en) (length rom) (lengthAt s) (slotAt s) (countAt s))) where
     lent-zero : lentNumber (benchIn s) (length l) (length h) (length en) (length rom) ≡ 0

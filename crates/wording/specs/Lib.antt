@@ -1,3 +1,3 @@
--- The line of a trace, and the refusals in words.
+-- The line of a trace and of the sums, and the refusals in words.
 pub mod Line
 pub mod Words

@@ -1,4 +1,4 @@
-// What is printed by row: the line of a trace, and the refusals in words.
+// What is printed by row: the line of a trace and of the sums, and the refusals in words.
 pub mod line;
 
 ghost use mathlib.Core.Path.{_≡_};

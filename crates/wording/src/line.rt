@@ -1,10 +1,10 @@
-// One line of the trace: row, kind, refusal or 0, A and B.
+// One line of the trace: row, kind, refusal or 0, A and B. One line of the sums: row and sum.
 ghost use mathlib.Core.List.{[], _∷_, _++_};
 ghost use mathlib.Core.Path.{_≡_};
 ghost use denote.Ref.{now};
 ghost use Rattle.append.specs.Sheet.{sheet, puts};
 ghost use Rattle.append.specs.Number.{decimal as Number·decimal};
-ghost use Rattle.wording.specs.Line.{lineText};
+ghost use Rattle.wording.specs.Line.{lineText, sumText};
 use append::number::decimal;
 use append::push_byte;
 
@@ -33,4 +33,12 @@ pub fn append_line(
     let three = ended(out, two, number as u64, b' ');
     let four = ended(out, three, a as u64, b' ');
     ended(out, four, b as u64, b'\n')
+}
+
+// The sum of work RAM after a row.
+pub fn append_sum(out: &mut [u8], used: usize, row: u64, sum: u32) -> usize
+    ensures { λ r. ⌜ sheet (now (out .exit)) r ≡ puts (sheet (now (out .entry)) used) (sumText row sum) ⌝ }
+{
+    let one = ended(out, used, row, b' ');
+    ended(out, one, sum as u64, b'\n')
 }

@@ -1,4 +1,4 @@
-//! What was compared: calls by their number, and reads of ROMs by length.
+//! What was compared: calls by their number, those with a false sum, and reads of ROMs by length.
 
 use crate::roms::{self, LENGTHS};
 use std::collections::BTreeMap;
@@ -7,6 +7,8 @@ use std::fmt;
 #[derive(Default)]
 pub struct Counts {
     calls: BTreeMap<(&'static str, u8), u64>,
+    /// Calls whose machine came with a false sum.
+    false_sums: u64,
     /// By length; all lengths that are not drawn stand together under none.
     roms: BTreeMap<Option<usize>, Rom>,
 }
@@ -23,6 +25,10 @@ struct Rom {
 impl Counts {
     pub fn call(&mut self, name: &'static str, number: u8) {
         *self.calls.entry((name, number)).or_default() += 1;
+    }
+
+    pub fn false_sum(&mut self) {
+        self.false_sums += 1;
     }
 
     pub fn total(&self) -> u64 {
@@ -53,6 +59,7 @@ impl fmt::Display for Counts {
         for ((call, number), count) in &self.calls {
             writeln!(out, "{call} {number}: {count}")?;
         }
+        writeln!(out, "with a false sum: {} calls", self.false_sums)?;
         for (length, Rom { runs, within, past }) in &self.roms {
             let length = length.map_or("other".into(), |length| length.to_string());
             writeln!(

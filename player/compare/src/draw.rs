@@ -49,7 +49,7 @@ fn file_rows(
 ) -> Result<Rows, String> {
     let bytes = generator::file(seed, run);
     let file = BenchFile::parse(&bytes);
-    let number = player::raw::file_check(&bytes);
+    let number = cloverwain::raw::file_check(&bytes);
     counts.call("file check", number);
     if (number == 0) != file.is_some() || !matches!(number, 0 | 11) {
         return Err(format!("file check gives {number}"));

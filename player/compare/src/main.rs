@@ -1,6 +1,7 @@
 //! The published Rust and the library in one process: random calls in every order, valid and not; after each the
 //! number, the machine, the record and what was answered are compared, and the work RAM bytes that it wrote; whole
-//! banks every 256 calls. ROMs that repeat and ROMs that do not are drawn. Stops at the first difference.
+//! banks and their sum every 256 calls. ROMs that repeat and ROMs that do not are drawn, and sums that are false. Stops
+//! at the first difference.
 //!
 //!     compare SEED COUNT
 
@@ -67,7 +68,7 @@ fn compare(seed: u64, count: u64, counts: &mut Counts) -> Result<(), String> {
 fn one_run(seed: u64, run: u64, roms: &Roms, counts: &mut Counts) -> Result<(), String> {
     let mut random = Random::new(seed, run);
     let rows = draw::rows(&mut random, seed, run, roms, counts)?;
-    let mut pair = Pair::fresh(&mut random, &rows, roms, counts);
+    let mut pair = Pair::fresh(&mut random, &rows, roms, counts)?;
     for (index, row) in rows.calls.iter().enumerate() {
         let at = |what: String| format!("at row {index}, {what}");
         pair.call(*row, counts).map_err(at)?;

@@ -3,6 +3,7 @@
 use crate::counts::Counts;
 use crate::draw::{CYCLE, Rows, any_row};
 use crate::roms::{self, Roms};
+use cloverwain::raw::{self, ANSWER_SIZE, MACHINE_SIZE, NEXT_SLOT, SUM};
 use oracle::any_image::any_image;
 use oracle::calls::{self, Cycle};
 use oracle::image::{ENTRY_SIZE, Entry, Image, Machine};
@@ -11,11 +12,10 @@ use oracle::lent::{BANK_SIZE, Banks, Lent};
 use oracle::random::Random;
 use oracle::ranges::image_in_ranges;
 use oracle::row::Row;
-use player::raw::{self, ANSWER_SIZE, MACHINE_SIZE};
 use std::fmt::Debug;
 use std::rc::Rc;
 
-/// Calls between two comparisons of whole banks.
+/// Calls between two comparisons of whole banks and their sum.
 const WHOLE: u64 = 256;
 
 pub struct Pair<'a> {
@@ -29,41 +29,31 @@ pub struct Pair<'a> {
     entries: Vec<u8>,
     /// Lengths that the next call is lent: both banks and the record.
     lengths: [usize; 3],
+    /// How much was added to the machine's sum to make it false, modulo 2^32.
+    false_by: u32,
     calls: u64,
 }
 
 impl<'a> Pair<'a> {
-    /// Both fresh, now and then refused first.
-    pub fn fresh(random: &mut Random, rows: &Rows, roms: &'a Roms, counts: &mut Counts) -> Self {
-        let slots = random.pick(&[1, 2, 3, 7, 20]);
-        let mut bytes = [0; MACHINE_SIZE];
-        for (length, cycles) in [
-            (random.between(0, 600), random.two()),
-            (256 * slots, rows.bit_cycles),
-            (256 * slots, 264),
-        ] {
-            let (number, machine) = calls::fresh(length, cycles.into());
-            let ours = raw::fresh(&mut bytes, length as usize, cycles);
-            counts.call("fresh", ours);
-            assert_eq!(
-                (ours, bytes),
-                (number, machine_bytes(&machine)),
-                "fresh {length} {cycles}"
-            );
-            if number == 0 && length == 256 * slots {
-                return Self::around(random, rows, roms, machine, bytes);
-            }
-        }
-        unreachable!("264 bit cycles are accepted")
-    }
-
-    fn around(
+    /// Both fresh, after some fresh calls that are mostly refused.
+    pub fn fresh(
         random: &mut Random,
         rows: &Rows,
         roms: &'a Roms,
-        machine: Machine,
-        bytes: [u8; MACHINE_SIZE],
-    ) -> Self {
+        counts: &mut Counts,
+    ) -> Result<Self, String> {
+        let mut pair = Self::lent(random, rows, roms);
+        (0..2).try_for_each(|_| pair.any_fresh(random, counts))?;
+        let length = pair.record.len();
+        // The file's own bit cycles may be refused.
+        if pair.fresh_call(length, rows.bit_cycles, counts)? != 0 {
+            pair.fresh_call(length, 264, counts)?;
+        }
+        Ok(pair)
+    }
+
+    /// All that is lent, with any bytes where fresh will put the machine.
+    fn lent(random: &mut Random, rows: &Rows, roms: &'a Roms) -> Self {
         let banks = Banks::filled(&rows.fill);
         let halves = [0, 1].map(|half| {
             banks.bytes()[half * BANK_SIZE..][..BANK_SIZE]
@@ -72,10 +62,13 @@ impl<'a> Pair<'a> {
                 .chain([0xA5])
                 .collect()
         });
-        let record = random.bytes(machine.record_length as usize);
+        let slots = random.pick(&[1, 2, 3, 7, 20]);
+        let record = random.bytes(slots * ENTRY_SIZE);
+        let bytes = random.bytes(MACHINE_SIZE);
+        let bytes = bytes.try_into().expect("a machine's bytes");
         let (entries, lengths) = (record.clone(), [BANK_SIZE, BANK_SIZE, record.len()]);
         Self {
-            machine,
+            machine: Machine::take(&bytes),
             banks,
             record,
             rom: rows.rom.clone(),
@@ -84,8 +77,50 @@ impl<'a> Pair<'a> {
             halves,
             entries,
             lengths,
+            false_by: 0,
             calls: 0,
         }
+    }
+
+    /// Fresh on both, over banks of the lengths that the next call is lent; answers the number.
+    fn fresh_call(
+        &mut self,
+        record_length: usize,
+        bit_cycles: u16,
+        counts: &mut Counts,
+    ) -> Result<u8, String> {
+        let [low, high, _] = self.lengths;
+        self.banks.lengths = [low, high];
+        let (theirs, machine) = calls::fresh(&self.banks, record_length as u64, bit_cycles.into());
+        let ours = raw::fresh(
+            &mut self.bytes,
+            &self.halves[0][..low],
+            &self.halves[1][..high],
+            record_length,
+            bit_cycles,
+        );
+        self.machine = machine;
+        counts.call("fresh", ours);
+        let given = format!("fresh {low} {high} {record_length} {bit_cycles}");
+        same(
+            &given,
+            &(ours, self.bytes),
+            &(theirs, machine_bytes(&machine)),
+        )?;
+        Ok(ours)
+    }
+
+    /// Fresh over the banks as they are now, mostly with something wrong; then the run goes on with its own machine.
+    fn any_fresh(&mut self, random: &mut Random, counts: &mut Counts) -> Result<(), String> {
+        let (machine, bytes, sound) = (self.machine, self.bytes, self.lengths);
+        self.bank_lengths(random);
+        let any = random.between(0, 600) as usize;
+        let length = random.pick(&[0, any, self.record.len(), self.record.len()]);
+        let any = random.two();
+        let bit_cycles = random.pick(&[0, 1, 264, 4096, 4097, any]);
+        let answer = self.fresh_call(length, bit_cycles, counts);
+        (self.machine, self.bytes, self.lengths) = (machine, bytes, sound);
+        answer.map(|_| ())
     }
 
     /// One call on both, and everything compared.
@@ -94,6 +129,9 @@ impl<'a> Pair<'a> {
         self.compared(&ours, &theirs)
             .map_err(|what| format!("{row:?} with a ROM of {} bytes: {what}", self.rom.len()))?;
         counts.call(name(row), ours.number);
+        if self.false_by != 0 {
+            counts.false_sum();
+        }
         for (bank, addr) in ours.reads(row) {
             counts.read(self.rom.len(), bank, addr);
         }
@@ -118,10 +156,24 @@ impl<'a> Pair<'a> {
         let (low, high) = self.banks.bytes().split_at(BANK_SIZE);
         let same = self.halves[0][..BANK_SIZE] == *low && self.halves[1][..BANK_SIZE] == *high;
         let spare = self.halves.iter().all(|half| half[BANK_SIZE] == 0xA5);
-        if same && spare {
+        if !same || !spare {
+            return Err("the banks differ".into());
+        }
+        self.whole_sum()
+    }
+
+    /// The library's sum is that of its banks, or false by as much as it was made so.
+    fn whole_sum(&self) -> Result<(), String> {
+        let whole = self.halves.iter().map(|half| added_up(&half[..BANK_SIZE]));
+        let whole = whole.sum::<u32>().wrapping_add(self.false_by);
+        let sum = u32::take(&self.bytes[SUM..]);
+        if sum == whole {
             Ok(())
         } else {
-            Err("the banks differ".into())
+            Err(format!(
+                "the library's sum is {sum}, its banks' and {} are {whole}",
+                self.false_by
+            ))
         }
     }
 
@@ -211,7 +263,7 @@ impl<'a> Pair<'a> {
         answer
     }
 
-    /// Now and then something wrong is lent for a call, the image is changed, or a page or the ROM looked at.
+    /// Now and then something wrong is lent for a call, the image or the sum is changed, or a page or the ROM looked at.
     pub fn disturb(&mut self, random: &mut Random, counts: &mut Counts) -> Result<(), String> {
         match random.between(0, 255) {
             0..4 => self.wrong_lengths(random, counts),
@@ -231,12 +283,25 @@ impl<'a> Pair<'a> {
             34..36 => self.with_rom(self.some_rom(random), |pair| {
                 pair.rom_machine(random, counts)
             }),
+            36..38 => self.any_sum(random),
+            38 => self.any_fresh(random, counts),
             _ => Ok(()),
         }
     }
 
     fn wrong_lengths(&mut self, random: &mut Random, counts: &mut Counts) -> Result<(), String> {
         let sound = self.lengths;
+        self.bank_lengths(random);
+        let record = sound[2];
+        self.lengths[2] = random
+            .pick(&[record, record, record - 1, record - 256, 0, 255])
+            .min(record);
+        let answer = self.call(any_row(random), counts);
+        self.lengths = sound;
+        answer
+    }
+
+    fn bank_lengths(&mut self, random: &mut Random) {
         for length in &mut self.lengths[..2] {
             *length = random.pick(&[
                 BANK_SIZE,
@@ -247,23 +312,16 @@ impl<'a> Pair<'a> {
                 0,
             ]);
         }
-        let record = sound[2];
-        self.lengths[2] = random
-            .pick(&[record, record, record - 1, record - 256, 0, 255])
-            .min(record);
-        let answer = self.call(any_row(random), counts);
-        self.lengths = sound;
-        answer
     }
 
     /// Any byte of the machine changed, for one call at least; one that breaks the ranges is put back after it.
     fn wrong_machine(&mut self, random: &mut Random, counts: &mut Counts) -> Result<(), String> {
         let (machine, bytes) = (self.machine, self.bytes);
-        let places = random.pick(&[(0, 221), (34, 98), (256, 279)]);
-        let place = random.between(places.0, places.1) as usize;
+        let places = random.pick(&[(0, 221), (34, 98), (NEXT_SLOT, SUM - 1)]);
+        let place = random.between(places.0 as u64, places.1 as u64) as usize;
         let any = random.byte();
         self.bytes[place] = random.pick(&[any, 2, 3, 4, 8, 0x7D, 0x80, 0xFF]);
-        self.machine = machine_of(&self.bytes);
+        self.machine = Machine::take(&self.bytes);
         self.call(any_row(random), counts)?;
         if !self.sound() {
             (self.machine, self.bytes) = (machine, bytes);
@@ -278,6 +336,17 @@ impl<'a> Pair<'a> {
             && machine.kept <= capacity
             && machine.record_length == length;
         counts && image_in_ranges(&machine.image)
+    }
+
+    /// Any sum from here on, or the true one again.
+    fn any_sum(&mut self, random: &mut Random) -> Result<(), String> {
+        let right = self.machine.sum.wrapping_sub(self.false_by);
+        let any = random.word() as u32;
+        let sum = random.pick(&[right, right, 0, u32::MAX, any]);
+        self.false_by = sum.wrapping_sub(right);
+        self.machine.sum = sum;
+        self.bytes = machine_bytes(&self.machine);
+        Ok(())
     }
 
     /// Another machine within the ranges.
@@ -418,23 +487,12 @@ fn cycle_bytes(cycle: &Cycle) -> [u8; ANSWER_SIZE] {
 
 fn machine_bytes(machine: &Machine) -> [u8; MACHINE_SIZE] {
     let mut bytes = [0; MACHINE_SIZE];
-    machine.image.put(&mut bytes);
-    let numbers = [machine.next_slot, machine.kept, machine.record_length];
-    bytes[256..]
-        .chunks_exact_mut(8)
-        .zip(numbers)
-        .for_each(|(part, number)| number.put(part));
+    machine.put(&mut bytes);
     bytes
 }
 
-fn machine_of(bytes: &[u8; MACHINE_SIZE]) -> Machine {
-    let number = |at: usize| u64::take(&bytes[at..]);
-    Machine {
-        image: Image::take(bytes),
-        next_slot: number(256),
-        kept: number(264),
-        record_length: number(272),
-    }
+fn added_up(bytes: &[u8]) -> u32 {
+    bytes.iter().map(|byte| u32::from(*byte)).sum()
 }
 
 fn name(row: Row) -> &'static str {

@@ -39,6 +39,8 @@ pub struct Work<'a> {
     pub low: &'a mut [u8; BANK_SIZE],
     pub high: &'a mut [u8; BANK_SIZE],
     pub rom: &'a [u8],
+    /// The machine's sum of work RAM, with every byte written so far.
+    pub sum: u32,
     pub accesses: Accesses,
     pub olds: Olds,
 }
@@ -73,6 +75,11 @@ pub fn cost(memsel: u8, bank: u8, addr: u16) -> u8 {
         Route::Cartridge if addr >= 0x8000 && bank >= 0x80 && memsel & 1 != 0 => 6,
         Route::Cartridge => 8,
     }
+}
+
+/// A sum of bytes modulo 2^32 after one of them was replaced.
+pub fn exchanged(sum: u32, old: u8, new: u8) -> u32 {
+    sum.wrapping_add(new.into()).wrapping_sub(old.into())
 }
 
 impl Work<'_> {
@@ -119,6 +126,7 @@ impl Work<'_> {
 
     fn overwrite(&mut self, high: bool, addr: u16, byte: u8) {
         let old = std::mem::replace(&mut self.bank(high)[usize::from(addr)], byte);
+        self.sum = exchanged(self.sum, old, byte);
         self.olds.items[self.olds.count] = Old { place: u32::from(high) << 16 | u32::from(addr), byte: old };
         self.olds.count += 1;
     }

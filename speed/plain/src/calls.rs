@@ -1,10 +1,15 @@
 //! Document 01's calls. A refused one answers its number and alters nothing.
 
-use crate::bus::{Accesses, BANK_SIZE, Olds, Work, cost};
+use crate::bus::{Accesses, BANK_SIZE, Olds, Work, cost, exchanged};
 use crate::image::{ENTRY_SIZE, Entry, put_olds, take_olds};
 use crate::joypad::ID_MASK;
 use crate::machine::{Event, Machine};
 use crate::refusals::{MOST_BIT_CYCLES, check_banks};
+
+const MACHINE_SIZE: usize = 284;
+/// Where next slot, kept and record length stand in a machine's bytes, and after them the sum.
+const NEXT_SLOT: usize = 256;
+const SUM: usize = 280;
 
 /// What every operation is lent.
 pub struct Lent<'a> {
@@ -29,14 +34,16 @@ pub struct Moved {
 }
 
 impl Machine {
-    pub fn fresh(record_length: usize, bit_cycles: u16) -> Result<Self, u8> {
+    /// The banks are only looked at: their bytes are added up once, and every call keeps the sum from then on.
+    pub fn fresh(low: &[u8], high: &[u8], record_length: usize, bit_cycles: u16) -> Result<Self, u8> {
+        check_banks(low, high)?;
         if record_length == 0 || !record_length.is_multiple_of(ENTRY_SIZE) {
             return Err(2);
         }
         if !matches!(bit_cycles, 1..=MOST_BIT_CYCLES) {
             return Err(10);
         }
-        Ok(Self::power_on(record_length, bit_cycles))
+        Ok(Self::power_on(record_length, bit_cycles, added_up(low) + added_up(high)))
     }
 
     pub fn cycle(&mut self, lent: Lent, event: u8, line_due: bool, timer_hit: bool) -> Result<Cycle, u8> {
@@ -109,7 +116,8 @@ impl Machine {
         let mut machine = self.take_image(entry).ok_or(9)?;
         for old in olds.items[..olds.count].iter().rev() {
             let bank = if old.place < BANK_SIZE as u32 { &mut *low } else { &mut *high };
-            bank[old.place as usize % BANK_SIZE] = old.byte;
+            let replaced = std::mem::replace(&mut bank[old.place as usize % BANK_SIZE], old.byte);
+            machine.sum = exchanged(machine.sum, replaced, old.byte);
         }
         machine.next_slot = slot;
         machine.kept -= 1;
@@ -117,13 +125,15 @@ impl Machine {
         Ok(())
     }
 
-    /// The machine's image, and beside it 34 zeros, next slot, kept and record length, 8 bytes each.
-    pub fn bytes(&self) -> [u8; 280] {
-        let mut bytes = [0; 280];
-        self.put_image(bytes.first_chunk_mut().expect("280 bytes"));
-        for (part, number) in bytes[256..].chunks_exact_mut(8).zip([self.next_slot, self.kept, self.record_length]) {
+    /// The machine's image, and beside it 34 zeros, next slot, kept and record length, 8 bytes each, and the sum, 4 bytes.
+    pub fn bytes(&self) -> [u8; MACHINE_SIZE] {
+        let mut bytes = [0; MACHINE_SIZE];
+        self.put_image(bytes.first_chunk_mut().expect("an image and more"));
+        let (slots, sum) = bytes[NEXT_SLOT..].split_at_mut(SUM - NEXT_SLOT);
+        for (part, number) in slots.chunks_exact_mut(8).zip([self.next_slot, self.kept, self.record_length]) {
             part.copy_from_slice(&(number as u64).to_le_bytes());
         }
+        sum.copy_from_slice(&self.sum.to_le_bytes());
         bytes
     }
 
@@ -136,16 +146,23 @@ impl Machine {
             low: lent.low.try_into().expect("a whole bank"),
             high: lent.high.try_into().expect("a whole bank"),
             rom: lent.rom,
+            sum: self.sum,
             accesses: Accesses::default(),
             olds: Olds::default(),
         };
         let answer = action(self, &mut work);
         put_olds(&work.olds, entry);
+        self.sum = work.sum;
         let capacity = self.record_length / ENTRY_SIZE;
         self.next_slot = if self.next_slot + 1 == capacity { 0 } else { self.next_slot + 1 };
         self.kept = capacity.min(self.kept + 1);
         answer
     }
+}
+
+/// At most 255 times 65,536, so two banks stay far below 2^32.
+fn added_up(bank: &[u8]) -> u32 {
+    bank.iter().map(|byte| u32::from(*byte)).sum()
 }
 
 fn check_port(port: u8) -> Result<(), u8> {

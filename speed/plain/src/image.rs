@@ -90,7 +90,7 @@ impl Machine {
         put(entry, 57, self.bit_cycles.to_le_bytes());
     }
 
-    /// The machine of an image, unless its bytes break the ranges; where the record stands is kept.
+    /// The machine of an image, unless its bytes break the ranges; where the record stands and the sum are kept.
     pub(crate) fn take_image(&self, entry: &Entry) -> Option<Machine> {
         let machine = Machine {
             io: take_io(entry)?,
@@ -102,6 +102,7 @@ impl Machine {
             next_slot: self.next_slot,
             kept: self.kept,
             record_length: self.record_length,
+            sum: self.sum,
         };
         machine.in_ranges().then_some(machine)
     }

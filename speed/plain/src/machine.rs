@@ -22,7 +22,7 @@ impl Event {
     }
 }
 
-/// The machine, and beside its image where the record stands.
+/// The machine, and beside its image where the record stands and the sum of all work RAM bytes, modulo 2^32.
 pub struct Machine {
     pub(crate) io: Io,
     pub(crate) dma: Dma,
@@ -33,10 +33,11 @@ pub struct Machine {
     pub(crate) next_slot: usize,
     pub(crate) kept: usize,
     pub(crate) record_length: usize,
+    pub(crate) sum: u32,
 }
 
 impl Machine {
-    pub(crate) fn power_on(record_length: usize, bit_cycles: u16) -> Self {
+    pub(crate) fn power_on(record_length: usize, bit_cycles: u16, sum: u32) -> Self {
         Self {
             io: Io::default(),
             dma: Dma::default(),
@@ -47,6 +48,7 @@ impl Machine {
             next_slot: 0,
             kept: 0,
             record_length,
+            sum,
         }
     }
 

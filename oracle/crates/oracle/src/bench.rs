@@ -1,7 +1,7 @@
 //! One run: a machine with all that is lent to it, and the rows of a script as calls.
 
 use crate::calls::{self, Cycle, Moved};
-use crate::image::{ENTRY_SIZE, Image, Machine};
+use crate::image::{ENTRY_SIZE, Machine};
 use crate::lent::{Banks, Lent};
 use crate::record;
 use crate::row::Row;
@@ -27,7 +27,7 @@ pub struct Step<'a> {
     /// The row this call belongs to, with a count of 1 and the event and flags of this call.
     pub call: Row,
     pub number: u8,
-    pub before: &'a Image,
+    pub before: &'a Machine,
     pub after: &'a Machine,
     /// All zero unless the call is a cycle.
     pub cycle: &'a Cycle,
@@ -38,10 +38,11 @@ pub struct Step<'a> {
 }
 
 impl Bench {
-    /// A fresh machine, or the number with which fresh is refused.
+    /// Fills the banks. A fresh machine on them, or the number with which fresh is refused.
     pub fn fresh(record_length: usize, bit_cycles: u16, fill: &[u8], rom: Rc<[u8]>) -> Result<Bench, u8> {
-        match calls::fresh(record_length as u64, bit_cycles.into()) {
-            (0, machine) => Ok(Bench { machine, banks: Banks::filled(fill), record: vec![0; record_length], rom }),
+        let banks = Banks::filled(fill);
+        match calls::fresh(&banks, record_length as u64, bit_cycles.into()) {
+            (0, machine) => Ok(Bench { machine, banks, record: vec![0; record_length], rom }),
             (number, _) => Err(number),
         }
     }
@@ -75,7 +76,7 @@ impl Bench {
 
     /// A row that is one call.
     pub fn call(&mut self, call: Row, watch: &mut dyn FnMut(Step)) -> RowAnswer {
-        let before = self.machine.image;
+        let before = self.machine;
         let (mut cycle, mut moved) = Default::default();
         let answer = self.answer(call, &mut cycle, &mut moved);
         watch(Step {

@@ -30,10 +30,12 @@ pub struct Moved {
     pub place: Option<u32>,
 }
 
-pub fn fresh(record_length: u64, bit_cycles: u64) -> (u8, Machine) {
-    let number = refusals::fresh(record_length, bit_cycles);
-    let (record_length, bit_cycles) = if number == 0 { (record_length, bit_cycles as u16) } else { (0, 1) };
-    (number, Machine { image: power_on(bit_cycles), next_slot: 0, kept: 0, record_length })
+/// The only call that adds up all of work RAM.
+pub fn fresh(banks: &Banks, record_length: u64, bit_cycles: u64) -> (u8, Machine) {
+    let number = refusals::fresh(banks, record_length, bit_cycles);
+    let (record_length, bit_cycles, sum) =
+        if number == 0 { (record_length, bit_cycles as u16, banks.sum()) } else { (0, 1, 0) };
+    (number, Machine { image: power_on(bit_cycles), next_slot: 0, kept: 0, record_length, sum })
 }
 
 pub fn cycle(machine: &mut Machine, lent: &mut Lent, event: u8, line_due: bool, timer_hit: bool) -> Cycle {
@@ -105,7 +107,8 @@ pub fn back(machine: &mut Machine, banks: &mut Banks, record: &[u8]) -> u8 {
     if number == 0 {
         let entry = record::newest(machine, record);
         for old in entry.old[..entry.count.into()].iter().rev() {
-            banks.bytes_mut()[old.place.0 as usize] = old.byte;
+            let struck = std::mem::replace(&mut banks.bytes_mut()[old.place.0 as usize], old.byte);
+            machine.sum = machine.sum.wrapping_add(old.byte.into()).wrapping_sub(struck.into());
         }
         machine.image = entry.image;
         machine.next_slot = record::newest_slot(machine, record);
@@ -128,6 +131,7 @@ fn operate<T>(machine: &mut Machine, lent: &mut Lent, action: impl FnOnce(&mut R
     let mut core = load(&before, lent);
     let result = action(&mut core);
     machine.image = store(&core, before.bit_cycles);
+    machine.sum = machine.sum.wrapping_add(core.bus.log.risen);
     record::push(machine, lent.record, &record::entry(&before, &core.bus.log));
     lent.banks.give_back(core.bus.into_bus().wram);
     result

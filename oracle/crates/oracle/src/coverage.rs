@@ -2,6 +2,7 @@
 
 use crate::bench::Step;
 use crate::generator::{self, KINDS, broken};
+use crate::image::Entry;
 use crate::row::Row;
 use crate::trace;
 use std::collections::BTreeMap;
@@ -12,6 +13,7 @@ pub mod listed;
 mod registers;
 mod rom;
 mod script;
+mod sums;
 
 /// Members never reached that are named in a line.
 const SHOWN: usize = 12;
@@ -60,6 +62,7 @@ pub struct Coverage {
     registers: registers::Registers,
     dma: dma::Transfers,
     script: script::Scripts,
+    sums: sums::Sums,
     pub calls: u64,
 }
 
@@ -71,6 +74,7 @@ pub fn coverage(seed: u64, count: u64) -> Coverage {
         registers: registers::Registers::new(),
         dma: dma::Transfers::new(),
         script: script::Scripts::new(),
+        sums: sums::Sums::of_files(),
         calls: 0,
     };
     for index in 0..count {
@@ -96,6 +100,7 @@ impl Coverage {
         self.script.step(step);
         if step.number == 0 {
             self.registers.step(step);
+            self.sums.step(step);
             if matches!(step.call, Row::Cycles { .. }) {
                 self.dma.step(step);
             }
@@ -106,7 +111,8 @@ impl Coverage {
 impl Coverage {
     fn groups(&self) -> impl Iterator<Item = &Group> {
         let groups = [&self.files, &self.broken].into_iter();
-        groups.chain(self.registers.groups()).chain(self.dma.groups()).chain(self.script.groups())
+        let groups = groups.chain(self.registers.groups()).chain(self.dma.groups());
+        groups.chain(self.script.groups()).chain([self.sums.group()])
     }
 
     /// How many members of all groups were never reached.
@@ -120,4 +126,10 @@ impl fmt::Display for Coverage {
         writeln!(out, "| group | reached | least | |\n|---|---|---|---|")?;
         self.groups().try_for_each(|group| writeln!(out, "{group}"))
     }
+}
+
+/// Whether an entry's operation wrote a place of work RAM twice.
+fn a_place_twice(entry: &Entry) -> bool {
+    let old = &entry.old[..entry.count.into()];
+    (1..old.len()).any(|index| old[..index].iter().any(|earlier| earlier.place == old[index].place))
 }

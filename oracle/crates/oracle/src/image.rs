@@ -3,6 +3,9 @@
 use crate::layout::{Field, fields};
 
 pub const ENTRY_SIZE: usize = 256;
+/// States of the DMA unit in which a general transfer and an HDMA pass go on.
+pub const DMA: u8 = 2;
+pub const HDMA: u8 = 3;
 const _: () = assert!(Image::SIZE == 222 && Entry::SIZE == ENTRY_SIZE);
 
 fields! {
@@ -133,11 +136,37 @@ impl Field for Place {
     }
 }
 
-/// The machine that calls hand to and fro: the image and the three numbers that stand beside it.
+/// The machine that calls hand to and fro: the image and the four numbers that stand beside it.
 #[derive(Clone, Copy, Debug, PartialEq, Eq)]
 pub struct Machine {
     pub image: Image,
     pub next_slot: u64,
     pub kept: u64,
     pub record_length: u64,
+    /// Of all work RAM bytes, modulo 2^32. No call tests it.
+    pub sum: u32,
+}
+
+/// As lists of calls have a machine: the four numbers follow from byte 256 on.
+impl Field for Machine {
+    const SIZE: usize = 284;
+
+    fn put(self, bytes: &mut [u8]) {
+        self.image.put(bytes);
+        bytes[Image::SIZE..ENTRY_SIZE].fill(0);
+        self.next_slot.put(&mut bytes[256..]);
+        self.kept.put(&mut bytes[264..]);
+        self.record_length.put(&mut bytes[272..]);
+        self.sum.put(&mut bytes[280..]);
+    }
+
+    fn take(bytes: &[u8]) -> Self {
+        Self {
+            image: Field::take(bytes),
+            next_slot: Field::take(&bytes[256..]),
+            kept: Field::take(&bytes[264..]),
+            record_length: Field::take(&bytes[272..]),
+            sum: Field::take(&bytes[280..]),
+        }
+    }
 }

@@ -31,6 +31,11 @@ impl Banks {
         }
     }
 
+    /// The sum of all bytes of both banks, modulo 2^32.
+    pub fn sum(&self) -> u32 {
+        self.bytes().iter().fold(0, |sum: u32, byte| sum.wrapping_add((*byte).into()))
+    }
+
     pub fn sound(&self) -> bool {
         self.lengths == [BANK_SIZE; 2]
     }

@@ -19,4 +19,5 @@ pub mod record;
 pub mod refusals;
 pub mod row;
 pub mod selfcheck;
+pub mod sums;
 pub mod trace;

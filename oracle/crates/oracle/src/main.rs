@@ -1,6 +1,6 @@
 //! The oracle's programs. Run without arguments for the list.
 
-use oracle::{coverage, generator, listed, moves, page, selfcheck, trace};
+use oracle::{coverage, generator, listed, moves, page, selfcheck, sums, trace};
 use std::fs;
 use std::io::{self, Read, Write};
 use std::path::Path;
@@ -10,6 +10,7 @@ const USAGE: &str = "usage:
   oracle trace [FILE]           print document 01's lines for a bench file (standard input if no FILE)
   oracle moves [PLACE]          print the accesses of the bench file on standard input (docs/MOVES.md)
   oracle page PLACE             show a page of work RAM after the bench file on standard input (docs/BENCH.md)
+  oracle sums                   print the sum of work RAM after each row of the bench file on standard input
   oracle selfcheck SEED COUNT   random runs with back steps, COUNT accepted operations in all
   oracle make SEED COUNT DIR    write COUNT bench files and LIST (file name, kind) into DIR
   oracle one SEED INDEX         write one of these files to standard output
@@ -38,6 +39,7 @@ fn run(words: &[&str]) -> Result<(), String> {
         ["moves"] => show_moves(None),
         ["moves", word] => show_moves(Some(place("moves", word)?)),
         ["page", word] => print(page::page(&read_input()?, place("page", word)?).as_bytes()),
+        ["sums"] => show_sums(),
         ["selfcheck", seed, count] => {
             let counts = selfcheck::selfcheck(number(seed)?, number(count)?)?;
             print(format!("seed {seed}: {counts}\n").as_bytes())
@@ -77,6 +79,12 @@ fn place(program: &str, word: &str) -> Result<u32, String> {
 
 fn show_moves(only: Option<u32>) -> Result<(), String> {
     print(moves::moves(&read_input()?, only)?.as_bytes())
+}
+
+fn show_sums() -> Result<(), String> {
+    let (lines, message) = sums::sums(&read_input()?);
+    print(lines.as_bytes())?;
+    message.map_or(Ok(()), Err)
 }
 
 fn make(seed: u64, count: u64, folder: &Path) -> Result<(), String> {

@@ -59,14 +59,14 @@ impl Listing {
     }
 
     fn cpu(&mut self, step: &Step, access: Access) {
-        self.access(step.before.clock, "CPU", access, step.moved.place, "");
+        self.access(step.before.image.clock, "CPU", access, step.moved.place, "");
     }
 
     fn cycle(&mut self, step: &Step) {
-        let clock = step.before.clock;
+        let clock = step.before.image.clock;
         for index in 0..step.cycle.count {
             let access = step.cycle.accesses[index];
-            let (name, channel) = holder(&step.before.dma, &step.after.image.dma);
+            let (name, channel) = holder(&step.before.image.dma, &step.after.image.dma);
             let mut marks = String::new();
             if access.write && rewrites(channel, access) {
                 marks += "  ! rewrites its own channel";
@@ -133,12 +133,12 @@ fn rewrites(channel: u8, access: Access) -> bool {
 
 /// The cycle moves a general transfer's first byte, with a byte count of 0.
 fn starts_at_zero(step: &Step) -> bool {
-    let dma = &step.before.dma;
-    dma.state == 2 && dma.unit == 0 && step.before.channels[usize::from(dma.channel)].das == 0
+    let dma = &step.before.image.dma;
+    dma.state == 2 && dma.unit == 0 && step.before.image.channels[usize::from(dma.channel)].das == 0
 }
 
 /// The numbers that a file or a row of one can be refused with.
-fn refusal(number: u8) -> String {
+pub(crate) fn refusal(number: u8) -> String {
     let words = match number {
         5 => "event over 4",
         6 => "port over 1, or answer outside $2134-$213F and $2140-$2143",

@@ -10,8 +10,10 @@ fn then(number: u8, next: u8, refused: impl FnOnce() -> bool) -> u8 {
     if number == 0 && refused() { next } else { number }
 }
 
-pub fn fresh(record_length: u64, bit_cycles: u64) -> u8 {
-    let number = then(0, 2, || !length_has_form(record_length));
+/// Number 1 comes from document 02's request 2.
+pub fn fresh(banks: &Banks, record_length: u64, bit_cycles: u64) -> u8 {
+    let number = then(0, 1, || !banks.sound());
+    let number = then(number, 2, || !length_has_form(record_length));
     then(number, 10, || !(1..=MOST_BIT_CYCLES.into()).contains(&bit_cycles))
 }
 

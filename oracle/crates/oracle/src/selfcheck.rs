@@ -1,5 +1,6 @@
 //! Demand 3 on the oracle: after random runs with back steps, the state is that of the survivors alone.
-//! Each back step is also held against the state before its operation, found without a look at the record.
+//! Each back step is also held against the state before its operation, found without a look at the record, and after
+//! each call the machine's sum against the sum over the banks.
 
 use crate::bench::{Bench, RowAnswer};
 use crate::benchfile::BenchFile;
@@ -21,14 +22,28 @@ pub struct Counts {
     pub refused: u64,
     pub rounds: u64,
     pub replayed: u64,
+    /// Runs whose machine had a false sum from the start.
+    pub false_sums: u64,
+    /// Calls that changed the sum, and those of them that took it past an end of its range.
+    pub sums_changed: u64,
+    pub sums_wrapped: u64,
 }
 
 impl fmt::Display for Counts {
     fn fmt(&self, out: &mut fmt::Formatter) -> fmt::Result {
         write!(
             out,
-            "{} runs, {} accepted operations, {} back steps, {} refused calls, {} times round a record, {} replayed: all equal",
-            self.runs, self.operations, self.back_steps, self.refused, self.rounds, self.replayed
+            "{} runs, {} accepted operations, {} back steps, {} refused calls, {} times round a record, {} replayed, \
+             {} runs with a false sum, {} sums changed, {} of them past an end: all equal",
+            self.runs,
+            self.operations,
+            self.back_steps,
+            self.refused,
+            self.rounds,
+            self.replayed,
+            self.false_sums,
+            self.sums_changed,
+            self.sums_wrapped
         )
     }
 }
@@ -37,8 +52,8 @@ impl fmt::Display for Counts {
 pub fn selfcheck(seed: u64, count: u64) -> Result<Counts, String> {
     let mut counts = Counts::default();
     while counts.operations < count {
-        let random = Random::new(seed, counts.runs);
-        run(random, &mut counts).map_err(|what| format!("seed {seed}, run {}: {what}", counts.runs))?;
+        let randoms = [seed, !seed].map(|seed| Random::new(seed, counts.runs));
+        run(randoms, &mut counts).map_err(|what| format!("seed {seed}, run {}: {what}", counts.runs))?;
         counts.runs += 1;
     }
     Ok(counts)
@@ -53,6 +68,8 @@ struct Run {
     banks: Vec<u8>,
     kept: u64,
     capacity: u64,
+    /// What the machine's sum has over the true one, modulo 2^32.
+    over: u32,
 }
 
 /// A call not struck, with the state before it.
@@ -64,14 +81,19 @@ struct Survivor {
     changed: Vec<(usize, u8)>,
 }
 
-fn run(mut random: Random, counts: &mut Counts) -> Result<(), String> {
+/// The second stream of numbers is for the sum.
+fn run([mut random, mut sums]: [Random; 2], counts: &mut Counts) -> Result<(), String> {
     let kind = &KINDS[random.between(0, KINDS.len() as u64 - 1) as usize];
     let mut file = generator::sound(kind, Random::new(random.word(), 0));
     file.bit_cycles = file.bit_cycles.clamp(1, 4096);
     let capacity = random.pick(&[1, 2, 3, 7, 20, 64]);
-    let bench = bench(&file, capacity);
+    let mut bench = bench(&file, capacity);
     let banks = bench.banks.bytes().to_vec();
-    let mut run = Run { bench, file, random, survivors: vec![], banks, kept: 0, capacity };
+    same("sum after fresh", &bench.machine.sum, &whole_sum(&banks))?;
+    let over = over(&mut sums, bench.machine.sum);
+    bench.machine.sum = bench.machine.sum.wrapping_add(over);
+    counts.false_sums += u64::from(over != 0);
+    let mut run = Run { bench, file, random, survivors: vec![], banks, kept: 0, capacity, over };
     for call in single_calls(&run.file.rows) {
         run.call(call, counts)?;
         run.disturb(counts)?;
@@ -81,6 +103,18 @@ fn run(mut random: Random, counts: &mut Counts) -> Result<(), String> {
         run.call(Row::Back { count: 1 }, counts)?;
     }
     run.replay(counts)
+}
+
+/// Nothing for half of the runs. The others get a false sum: off by one, any, or one that starts at 0 and so soon wraps.
+fn over(random: &mut Random, sum: u32) -> u32 {
+    let any = random.word() as u32;
+    if random.once_in(2) { 0 } else { random.pick(&[1, u32::MAX, any, sum.wrapping_neg(), sum.wrapping_neg()]) }
+}
+
+/// No number on the way wraps: a page's sum is under 2^16, that of all pages under 2^32.
+fn whole_sum(banks: &[u8]) -> u32 {
+    let page = |page: &[u8]| page.iter().fold(0, |sum: u16, byte| sum.wrapping_add(u16::from(*byte)));
+    banks.chunks(PAGE).map(|bytes| u32::from(page(bytes))).sum()
 }
 
 fn bench(file: &BenchFile, capacity: u64) -> Bench {
@@ -142,6 +176,7 @@ impl Run {
             }
         }
         self.check_banks()?;
+        self.check_sum(before.sum, counts)?;
         self.check_record(&before, &record, written)?;
         same("kept", &self.bench.machine.kept, &self.kept)
     }
@@ -166,6 +201,14 @@ impl Run {
         if self.banks == self.bench.banks.bytes() { Ok(()) } else { Err("a work RAM byte differs".into()) }
     }
 
+    /// The machine's sum is as far from the true one as it was at the start.
+    fn check_sum(&self, before: u32, counts: &mut Counts) -> Result<(), String> {
+        let sum = self.bench.machine.sum;
+        counts.sums_changed += u64::from(sum != before);
+        counts.sums_wrapped += u64::from((sum.wrapping_sub(before) as i32 > 0) != (sum > before));
+        same("sum", &sum, &whole_sum(&self.banks).wrapping_add(self.over))
+    }
+
     /// Only the slot of an accepted operation changed, and it holds the image before.
     fn check_record(&self, before: &Machine, old: &[u8], written: bool) -> Result<(), String> {
         let new = &self.bench.record;
@@ -188,6 +231,7 @@ impl Run {
         }
         counts.replayed += self.survivors.len() as u64;
         same("image", &self.bench.machine.image, &alone.machine.image)?;
+        same("sum of the survivors", &self.bench.machine.sum, &alone.machine.sum.wrapping_add(self.over))?;
         if self.bench.banks.bytes() != alone.banks.bytes() {
             return Err("the banks differ from those of the survivors".into());
         }

@@ -5,6 +5,7 @@ mod help;
 use help::{RECORD, bench, call, lent};
 use oracle::bench::Bench;
 use oracle::calls;
+use oracle::convert::power_on;
 use oracle::image::Image;
 use oracle::lent::{Banks, Lent, MOST_ROM};
 use oracle::row::Row;
@@ -208,25 +209,37 @@ fn back_8_9() {
 }
 
 #[test]
-fn fresh_2_10() {
+fn fresh_1_2_10() {
+    const WHOLE: [usize; 2] = [65_536; 2];
     let cases = [
-        (0, 1, 2),
-        (255, 1, 2),
-        (257, 1, 2),
-        (256, 1, 0),
-        (256, 0, 10),
-        (256, 4096, 0),
-        (256, 4097, 10),
-        (1, 0, 2),
-        (u64::MAX, u64::MAX, 2),
-        (u64::MAX - 255, 1, 0),
+        (WHOLE, 0, 1, 2),
+        (WHOLE, 255, 1, 2),
+        (WHOLE, 257, 1, 2),
+        (WHOLE, 256, 1, 0),
+        (WHOLE, 256, 0, 10),
+        (WHOLE, 256, 4096, 0),
+        (WHOLE, 256, 4097, 10),
+        (WHOLE, 1, 0, 2),
+        (WHOLE, u64::MAX, u64::MAX, 2),
+        (WHOLE, u64::MAX - 255, 1, 0),
+        ([65_535, 65_536], 256, 1, 1),
+        ([65_537, 65_536], 256, 1, 1),
+        ([65_536, 65_535], 256, 1, 1),
+        ([65_536, 65_537], 256, 1, 1),
+        ([0, 0], 256, 1, 1),
+        ([65_535, 65_536], 255, 1, 1),
+        ([65_536, 65_537], 256, 0, 1),
+        ([0, 65_536], 0, 4097, 1),
     ];
-    for (length, bit_cycles, expected) in cases {
-        let (number, machine) = calls::fresh(length, bit_cycles);
+    let mut banks = Banks::filled(&[1]);
+    for (lengths, length, bit_cycles, expected) in cases {
+        banks.lengths = lengths;
+        let (number, machine) = calls::fresh(&banks, length, bit_cycles);
         assert_eq!(number, expected);
-        let (length, bit_cycles) = if number == 0 { (length, bit_cycles as u16) } else { (0, 1) };
-        assert_eq!((machine.record_length, machine.image.bit_cycles), (length, bit_cycles));
+        let (length, bit_cycles, sum) = if number == 0 { (length, bit_cycles as u16, 131_072) } else { (0, 1, 0) };
+        assert_eq!((machine.record_length, machine.image.bit_cycles, machine.sum), (length, bit_cycles, sum));
         assert_eq!((machine.next_slot, machine.kept), (0, 0));
+        assert!(machine.image == power_on(bit_cycles));
     }
 }
 

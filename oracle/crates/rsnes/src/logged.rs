@@ -1,4 +1,5 @@
-//! The published bus behind a door that notes each access and each work RAM byte about to be overwritten.
+//! The published bus behind a door that notes each access and each work RAM byte about to be overwritten, and follows the
+//! sum of work RAM write by write.
 
 use apu::Apu;
 use bus::Bus;
@@ -35,6 +36,8 @@ pub struct Log {
     pub count: usize,
     pub old_bytes: [OldByte; MOST_OLD_BYTES],
     pub old_count: usize,
+    /// What the writes added to the sum of work RAM, modulo 2^32.
+    pub risen: u32,
 }
 
 impl Log {
@@ -44,9 +47,11 @@ impl Log {
         self.count += 1;
     }
 
-    fn keep(&mut self, place: usize, byte: u8) {
-        self.old_bytes[self.old_count] = OldByte { place: place as u32, byte };
+    /// A write to work RAM, which puts one byte in place of another.
+    fn replace(&mut self, place: usize, old: u8, new: u8) {
+        self.old_bytes[self.old_count] = OldByte { place: place as u32, byte: old };
         self.old_count += 1;
+        self.risen = self.risen.wrapping_add(new.into()).wrapping_sub(old.into());
     }
 }
 
@@ -74,7 +79,7 @@ impl LoggedBus {
     pub fn write(&mut self, addr: SnesAddress, byte: u8, ppu: &mut PPU, apu: &mut Apu) -> AccessSpeed {
         let place = self.place(addr);
         if let Some(place) = place {
-            self.log.keep(place, self.bus.wram.data[place]);
+            self.log.replace(place, self.bus.wram.data[place], byte);
         }
         self.log.note(Access { write: true, bank: addr.bank, addr: addr.addr, byte }, place);
         self.bus.write(addr, byte, ppu, apu)

@@ -11,12 +11,13 @@ returns-2 c =
     let at4 = c .before .before .before .before in
     let at7 = at4 .before .before .before in
     let at10 = at7 .before .before .before in
-    let at11 = at10 .before in
-    let at12 = at11 .before in
-    let at14 = at12 .before .before in
+    let at13 = at10 .before .before .before in
+    let at14 = at13 .before in
     let at15 = at14 .before in
-    let at16 = at15 .before in
-    back-done _ (at16 .lent-number .ensures) (at15 .capacity .ensures) (at14 .slot-before .ensures) (at12 .read-entry .ensures) (at11 .back-number .ensures) (eq-eqb _ _ (at10 .if1 .left)) (at7 .less-kept .ensures) (at4 .put-back .ensures)
+    let at17 = at15 .before .before in
+    let at18 = at17 .before in
+    let at19 = at18 .before in
+    back-done _ (at19 .lent-number .ensures) (at18 .capacity .ensures) (at17 .slot-before .ensures) (at15 .read-entry .ensures) (at14 .back-number .ensures) (eq-eqb _ _ (at13 .if1 .left)) (at10 .less-kept .ensures) (at7 .sum-before .ensures) (at4 .put-back .ensures)
 
 pub back-spec : {M : Type 1} → statement M
 back-spec =
@@ -29,6 +30,7 @@ back-spec =
     (λ c κs. search needs)
     (λ c. search needs)
     returns
+    (λ c κs. search needs)
     (λ c κs. search needs)
     (λ c κs. search needs)
     (λ c. search needs)

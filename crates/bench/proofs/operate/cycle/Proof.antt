@@ -9,13 +9,20 @@ returns c = cycle-refused _ _ (c .before .before .before .lent-number .ensures) 
 returns-2 : tie.Need-returns-2
 returns-2 c =
     let at2 = c .before .before in
-    let at7 = at2 .before .before .before .before .before in
-    let at12 = at7 .before .before .before .before .before in
-    let at15 = at12 .before .before .before in
-    let at17 = at15 .before .before in
-    let at18 = at17 .before in
-    let at19 = at18 .before in
-    cycle-done _ _ (at19 .lent-number .ensures) _ _ _ (at18 .cycle-number .ensures) (eq-eqb _ _ (at17 .if1 .left)) (at15 .event-of .ensures) (at12 .cycle .ensures) (at7 .machine-of .ensures) (at2 .note .ensures)
+    let at4 = at2 .before .before in
+    let at10 = at4 .before .before .before .before .before .before in
+    let at15 = at10 .before .before .before .before .before in
+    let at18 = at15 .before .before .before in
+    let at20 = at18 .before .before in
+    let at21 = at20 .before in
+    let at22 = at21 .before in
+    cycle-done _ _ (at22 .lent-number .ensures) _ _ _ (at21 .cycle-number .ensures) (eq-eqb _ _ (at20 .if1 .left)) (at18 .event-of .ensures) (at15 .cycle .ensures) (at10 .machine-of .ensures) (at4 .sum-after .ensures) (at2 .note .ensures)
+
+same-length : tie.Need-same-length
+same-length c = c .before .before .before .before .before .before .before .before .before .before .before .before .before .before .before .cycle .kept .1 .0
+
+same-length-2 : tie.Need-same-length-2
+same-length-2 c = c .before .before .before .before .before .before .before .before .before .before .before .before .before .before .before .cycle .kept .1 .1 .0
 
 pub cycle-spec : {M : Type 1} → statement M
 cycle-spec =
@@ -29,7 +36,8 @@ cycle-spec =
     (λ c κs. search needs)
     (λ c κs. search needs)
     (λ c κs. search needs)
-    (λ c. search needs)
-    (λ c. search needs)
+    (λ c κs. search needs)
+    same-length
+    same-length-2
     (λ c. search needs)
     returns-2)

@@ -6,10 +6,10 @@ use Rattle.listed.proofs.changes.changes.Statement.{statement}
 use Rattle.listed.proofs.changes.changes.Tie as tie
 
 abbrev Inv-loop : tie.InvT-loop
-Inv-loop line₀ at name wide before after end₀ i₀ line end i = length line ≡ length line₀
+Inv-loop line₀ at name width before after end₀ i₀ line end i = length line ≡ length line₀
 
 abbrev μ-loop : tie.MeasureT-loop
-μ-loop line₀ at name wide before after end₀ i₀ line end i = length after - i
+μ-loop line₀ at name width before after end₀ i₀ line end i = length after - i
 
 add-i : tie.Need-add-i Inv-loop μ-loop
 add-i c = omega (arith, (c .before .before .before .before .loop-test .taken))

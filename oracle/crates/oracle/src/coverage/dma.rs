@@ -2,12 +2,10 @@
 
 use super::Group;
 use crate::bench::Step;
-use crate::image::{Channel, Image};
+use crate::image::{Channel, DMA, HDMA, Image};
 use rsnes::logged::Access;
 
 const OLD_COUNT: usize = 222;
-const DMA: u8 = 2;
-const HDMA: u8 = 3;
 const HDMA_JUST_STARTED: u32 = 17;
 
 pub struct Transfers {
@@ -53,10 +51,10 @@ impl Transfers {
         let accesses = &step.cycle.accesses[..step.cycle.count];
         self.accesses.hit(accesses.len());
         self.old_bytes.hit(step.entry[OLD_COUNT]);
-        self.changes_of_hand(step.before, &step.after.image);
-        match step.before.dma.state {
-            DMA if !accesses.is_empty() => self.general_byte(step.before, &step.after.image, accesses),
-            HDMA if !accesses.is_empty() => self.hdma_channel(step.before, accesses),
+        self.changes_of_hand(&step.before.image, &step.after.image);
+        match step.before.image.dma.state {
+            DMA if !accesses.is_empty() => self.general_byte(&step.before.image, &step.after.image, accesses),
+            HDMA if !accesses.is_empty() => self.hdma_channel(&step.before.image, accesses),
             _ => {}
         }
     }

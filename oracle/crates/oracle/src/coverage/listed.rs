@@ -1,6 +1,6 @@
 //! What a list of single calls reaches.
 
-use super::{Group, dma, registers, rom};
+use super::{Group, dma, registers, rom, sums};
 use crate::bench::Step;
 use crate::listed::answer::Desk;
 use crate::listed::even::{BANKS, EDGES};
@@ -14,11 +14,12 @@ pub struct Reached {
     registers: registers::Registers,
     dma: dma::Transfers,
     rom: rom::RomReads,
+    sums: sums::Sums,
     pub calls: usize,
 }
 
 const CALLS: [(&str, &[u8]); 9] = [
-    ("fresh", &[0, 2, 10]),
+    ("fresh", &[0, 1, 2, 10]),
     ("cycle", &[0, 1, 2, 3, 4, 5, 7]),
     ("read", &[0, 1, 2, 3, 4]),
     ("write", &[0, 1, 2, 3, 4]),
@@ -42,12 +43,14 @@ pub fn reached(list: &[u8]) -> Result<Reached, String> {
         registers: registers::Registers::new(),
         dma: dma::Transfers::new(),
         rom: rom::RomReads::of_calls(),
+        sums: sums::Sums::of_calls(),
         calls: 0,
     };
     let mut desk = Desk::default();
     for call in Call::list(list)? {
         let (number, _) = desk.answer(&call, &mut |step| reached.step(&step, call.listed.lent_rom as usize));
         reached.call(&call.listed, number);
+        reached.sums.given(&call.listed, number, desk.lent_sum());
     }
     Ok(reached)
 }
@@ -68,6 +71,7 @@ impl Reached {
         }
         self.registers.step(step);
         self.rom.step(step, rom);
+        self.sums.step(step);
         match step.call {
             Row::Cycles { .. } => self.dma.step(step),
             Row::Read { bank, addr } => self.borders.hit(border("read", (bank, addr))),
@@ -78,7 +82,7 @@ impl Reached {
 
     fn groups(&self) -> impl Iterator<Item = &Group> {
         let groups = [&self.numbers, &self.borders].into_iter();
-        groups.chain(self.registers.groups()).chain(self.dma.groups()).chain([self.rom.group()])
+        groups.chain(self.registers.groups()).chain(self.dma.groups()).chain([self.rom.group(), self.sums.group()])
     }
 
     /// How many members of all groups were never reached.

@@ -2,9 +2,9 @@
 
 use super::Group;
 use crate::bench::Step;
+use crate::image::DMA;
 use crate::row::Row;
 
-const DMA: u8 = 2;
 /// What one bank shows of the ROM.
 const BANK: usize = 0x8000;
 const READERS: [&str; 3] = ["script", "general", "HDMA"];
@@ -45,7 +45,7 @@ impl RomReads {
         if let Row::Read { bank, addr } = step.call {
             self.read(READERS[0], length, bank, addr);
         }
-        let reader = if step.before.dma.state == DMA { READERS[1] } else { READERS[2] };
+        let reader = if step.before.image.dma.state == DMA { READERS[1] } else { READERS[2] };
         for access in step.cycle.accesses[..step.cycle.count].iter().filter(|access| !access.write) {
             self.read(reader, length, access.bank, access.addr);
         }

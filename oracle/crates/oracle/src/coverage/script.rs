@@ -1,7 +1,7 @@
 //! Refused rows, the ring, controllers, events, the cartridge.
 
-use super::Group;
 use super::rom::RomReads;
+use super::{Group, a_place_twice};
 use crate::bench::Step;
 use crate::benchfile::BenchFile;
 use crate::image::Entry;
@@ -112,17 +112,16 @@ impl Scripts {
             self.ring.hit("back to the oldest");
         }
         let struck = Entry::take(step.entry);
-        let old = &struck.old[..struck.count.into()];
-        if !old.is_empty() {
+        if struck.count != 0 {
             self.ring.hit("back over old bytes");
         }
-        if (1..old.len()).any(|index| old[..index].iter().any(|earlier| earlier.place == old[index].place)) {
+        if a_place_twice(&struck) {
             self.ring.hit("back a byte twice");
         }
     }
 
     fn cycle(&mut self, step: &Step, event: u8, flags: u8) {
-        let (was, is) = (step.before, &step.after.image);
+        let (was, is) = (&step.before.image, &step.after.image);
         self.events.hit(format!("event {event}"));
         let found = [
             (flags & 1 != 0, "line due"),
@@ -146,13 +145,13 @@ impl Scripts {
 
     fn read(&mut self, step: &Step, bank: u8, addr: u16) {
         if bank & 0x40 == 0 && matches!(addr, 0x4016 | 0x4017) {
-            let port = &step.before.ports[usize::from(addr - 0x4016)];
+            let port = &step.before.image.ports[usize::from(addr - 0x4016)];
             self.joypad.hit(format!("${addr:04X} latch {} plug {}", port.latch, port.connected));
         }
         if matches!(bank, 0x7E | 0x7F) || addr < 0x6000 && bank & 0x40 == 0 {
             return;
         }
-        let fast = bank >= 0x80 && addr >= 0x8000 && step.before.memsel & 1 != 0;
+        let fast = bank >= 0x80 && addr >= 0x8000 && step.before.image.memsel & 1 != 0;
         let cost = if fast { 6 } else { 8 };
         let offset = (usize::from(bank % 128) * 0x8000 + usize::from(addr)).checked_sub(0x8000);
         if addr >= 0x8000 && offset == self.rom.checked_sub(1) {

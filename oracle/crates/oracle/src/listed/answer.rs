@@ -3,7 +3,7 @@
 use super::{Call, FRESH, Listed, MOST_RECORD, PAGE, UNWRITTEN};
 use crate::bench::{Bench, Step};
 use crate::calls::{self, Cycle};
-use crate::image::{ENTRY_SIZE, Image, Machine};
+use crate::image::{ENTRY_SIZE, Machine};
 use crate::layout::Field;
 use crate::lent::{BANK_SIZE, Banks};
 use crate::row::Row;
@@ -60,35 +60,33 @@ impl Desk {
         let mut banks = self.banks.take().expect("banks are back after each call");
         lay(&mut banks, listed);
         banks.lengths = [listed.lent_low as usize, listed.lent_high as usize];
-        let machine = Machine {
-            image: listed.image,
-            next_slot: listed.next_slot.into(),
-            kept: listed.kept.into(),
-            record_length: listed.record_length.into(),
-        };
         let mut record = vec![UNWRITTEN; MOST_RECORD];
         if let Some(entry) = &call.entry {
             record[usize::from(listed.first) * ENTRY_SIZE..][..ENTRY_SIZE].copy_from_slice(entry);
         }
         let rom = self.roms.entry(listed.lent_rom).or_insert_with(|| rom(listed.lent_rom)).clone();
-        Bench { machine, banks, record, rom }
+        Bench { machine: listed.machine, banks, record, rom }
+    }
+
+    /// The true sum of the banks as the latest call was lent them.
+    pub fn lent_sum(&self) -> u32 {
+        self.lent.sum()
     }
 
     fn line(&self, listed: &Listed, answer: &Answer, bench: &Bench, record: &[u8]) -> String {
-        let Machine { image, next_slot, kept, record_length } = bench.machine;
         let (held, edge) = (u8::from(answer.cycle.held), u8::from(answer.cycle.nmi));
         let mut line = format!(
-            "{:02X} {:02X} {held:02X} {edge:02X} {:02X} {:02X} {next_slot:08X} {kept:08X} {record_length:08X}",
+            "{:02X} {:02X} {held:02X} {edge:02X} {:02X} {:02X}",
             listed.kind, answer.number, answer.byte, answer.cost
         );
-        let before = image_bytes(&listed.image);
-        changes(&mut line, 'i', &before, &image_bytes(&image), 2);
+        let before = machine_bytes(listed.machine);
+        changes(&mut line, 'm', &before, &machine_bytes(bench.machine), 3);
         let halves = self.lent.bytes().chunks(BANK_SIZE).zip(bench.banks.bytes().chunks(BANK_SIZE));
         halves.zip(['l', 'h']).for_each(|((before, after), name)| changes(&mut line, name, before, after, 6));
         let slots = record.chunks(ENTRY_SIZE).zip(bench.record.chunks(ENTRY_SIZE)).enumerate();
         for (slot, (_, after)) in slots.filter(|(_, (before, after))| before != after) {
             add(&mut line, format_args!(" e{slot:02X}"));
-            changes(&mut line, 'o', &before, after, 2);
+            changes(&mut line, 'o', &before[..ENTRY_SIZE], after, 2);
         }
         for access in &answer.cycle.accesses[..answer.cycle.count] {
             let way = if access.write { 'w' } else { 'r' };
@@ -105,7 +103,7 @@ impl Desk {
 fn carry_out(listed: &Listed, bench: &mut Bench, watch: &mut dyn FnMut(Step)) -> Answer {
     match (listed.kind, listed.row()) {
         (FRESH, _) => {
-            let (number, machine) = calls::fresh(listed.lent_record.into(), listed.word.into());
+            let (number, machine) = calls::fresh(&bench.banks, listed.lent_record.into(), listed.word.into());
             bench.machine = machine;
             Answer { number, ..Answer::default() }
         }
@@ -131,7 +129,7 @@ fn operation(bench: &mut Bench, row: Row, watch: &mut dyn FnMut(Step)) -> Answer
 }
 
 /// The fill over both banks, and the patches on it.
-fn lay(banks: &mut Banks, listed: &Listed) {
+pub fn lay(banks: &mut Banks, listed: &Listed) {
     banks.fill(&listed.fill[..listed.fill_length.into()]);
     listed.patches.iter().for_each(|patch| banks.bytes_mut()[patch.place.0 as usize] = patch.byte);
 }
@@ -141,10 +139,10 @@ pub fn rom(length: u32) -> Rc<[u8]> {
     (0..length).map(|at| (at % 251) as u8).collect()
 }
 
-/// The image in 256 bytes, as an entry without old bytes has it.
-fn image_bytes(image: &Image) -> [u8; ENTRY_SIZE] {
-    let mut bytes = [0; ENTRY_SIZE];
-    image.put(&mut bytes);
+/// The first 256 are those of an entry without old bytes.
+fn machine_bytes(machine: Machine) -> [u8; Machine::SIZE] {
+    let mut bytes = [0; Machine::SIZE];
+    machine.put(&mut bytes);
     bytes
 }
 

@@ -1,9 +1,9 @@
 //! The cartridge: ROM lengths on both sides of each limit, read at their ends and in high banks by the script, by a
 //! general transfer and by HDMA.
 
-use super::even::{DMA, HDMA};
 use super::lot::Lot;
 use super::{Call, Listed};
+use crate::image::{DMA, HDMA};
 use crate::lent::MOST_ROM;
 use crate::row::Row;
 
@@ -39,16 +39,16 @@ fn at(lot: &mut Lot, calls: &mut Vec<Call>, length: u32, offset: u32) {
 fn lent(lot: &mut Lot, length: u32) -> Listed {
     let mut listed = lot.machine();
     listed.lent_rom = length;
-    listed.image.open_bus = 251 + lot.random.byte() % 5;
+    listed.machine.image.open_bus = 251 + lot.random.byte() % 5;
     listed
 }
 
 /// One byte of a general transfer.
 fn general(lot: &mut Lot, length: u32, bank: u8, addr: u16) -> Call {
     let mut listed = lent(lot, length);
-    let dma = &mut listed.image.dma;
+    let dma = &mut listed.machine.image.dma;
     (dma.state, dma.wait, dma.running, dma.present, dma.pending) = (DMA, 0, 1, 1, 0);
-    let channel = &mut listed.image.channels[usize::from(dma.channel)];
+    let channel = &mut listed.machine.image.channels[usize::from(dma.channel)];
     (channel.dmap, channel.bbad) = (channel.dmap & 0x7F, lot.random.pick(&[0x18, 0x80]));
     (channel.a1t_bank, channel.a1t_addr) = (bank, addr);
     listed.call(QUIET)
@@ -58,12 +58,12 @@ fn general(lot: &mut Lot, length: u32, bank: u8, addr: u16) -> Call {
 fn table(lot: &mut Lot, length: u32, bank: u8, addr: u16, init: u8) -> Call {
     let mut listed = lent(lot, length);
     let number = lot.random.byte() % 8;
-    let dma = &mut listed.image.dma;
+    let dma = &mut listed.machine.image.dma;
     (dma.state, dma.wait, dma.running, dma.pending) = (HDMA, 0, 1, 0);
     (dma.init, dma.queue) = (init, 1 << number);
-    let line = &mut listed.image.lines[usize::from(number)];
+    let line = &mut listed.machine.image.lines[usize::from(number)];
     (line.counter, line.finished) = (0, 0);
-    let channel = &mut listed.image.channels[usize::from(number)];
+    let channel = &mut listed.machine.image.channels[usize::from(number)];
     (channel.dmap, channel.bbad) = (channel.dmap & 0x7F, lot.random.pick(&[0x18, 0x80]));
     (channel.a1t_bank, channel.a1t_addr, channel.a2a, channel.dasb) = (bank, addr, addr, bank);
     listed.call(QUIET)

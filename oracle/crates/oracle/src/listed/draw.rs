@@ -1,7 +1,7 @@
 //! The list of a seed: first the draws that leave nothing out, then draws at random and calls of runs in turn.
 
 use super::lot::Lot;
-use super::{Call, aimed, cartridge, even, refused, runs};
+use super::{Call, aimed, cartridge, even, refused, runs, sums};
 use crate::random::Random;
 
 const AIMED: [fn(&mut Lot) -> Call; 13] = [
@@ -26,7 +26,7 @@ pub fn list(seed: u64, count: u64) -> Vec<u8> {
 }
 
 fn calls(seed: u64, count: usize) -> Vec<Call> {
-    let mut lot = Lot { random: Random::new(seed, 0) };
+    let mut lot = Lot::new(Random::new(seed, 0));
     let mut calls = vec![];
     let all = [
         even::registers,
@@ -37,8 +37,12 @@ fn calls(seed: u64, count: usize) -> Vec<Call> {
         even::own_registers,
         cartridge::lengths,
         refused::each,
+        sums::fresh,
     ];
     all.iter().for_each(|draw| draw(&mut lot, &mut calls));
+    lot.draw_sums(&mut calls);
+    sums::each(&mut lot, &mut calls);
+    let settled = calls.len();
     for round in 0.. {
         if calls.len() >= count {
             break;
@@ -46,6 +50,7 @@ fn calls(seed: u64, count: usize) -> Vec<Call> {
         calls.extend(AIMED.map(|draw| draw(&mut lot)));
         (2 * round..2 * round + 2).for_each(|index| calls.extend(runs::calls(&mut lot, seed, index)));
     }
+    lot.draw_sums(&mut calls[settled..]);
     calls.truncate(count);
     calls
 }

@@ -4,11 +4,9 @@
 use super::Call;
 use super::aimed::rewrite;
 use super::lot::Lot;
+use crate::image::{DMA, HDMA};
 use crate::row::Row;
 use rsnes::dma::Dma;
-
-pub const DMA: u8 = 2;
-pub const HDMA: u8 = 3;
 
 /// First and last addresses of the ranges in which the bus and the registers decide alike.
 pub const EDGES: [u16; 28] = [
@@ -43,7 +41,7 @@ pub fn data_port(lot: &mut Lot, calls: &mut Vec<Call>) {
     for (bank, addr) in [(0x7E, 0), (0x7E, 0xFFFF), (0x7F, 0), (0x7F, 0xFFFF)] {
         for row in [Row::Read { bank: 0, addr: 0x2180 }, Row::Write { bank: 0, addr: 0x2180, byte: 0x5A }] {
             let mut listed = lot.machine();
-            (listed.image.wmadd_bank, listed.image.wmadd_addr) = (bank, addr);
+            (listed.machine.image.wmadd_bank, listed.machine.image.wmadd_addr) = (bank, addr);
             calls.push(listed.call(row));
         }
     }
@@ -55,12 +53,12 @@ pub fn general(lot: &mut Lot, calls: &mut Vec<Call>) {
         for (way, turn) in [(0x00, 0), (0x80, 3)] {
             let mut listed = lot.machine();
             let mode = (target / 8 + turn) % 8;
-            let dma = &mut listed.image.dma;
+            let dma = &mut listed.machine.image.dma;
             (dma.state, dma.wait, dma.running, dma.present, dma.pending) = (DMA, 0, 1, 1, 0);
             dma.channel = target % 8;
             let pattern = Dma::transfer_pattern(mode);
             let offset = pattern[dma.unit as usize % pattern.len()];
-            let channel = &mut listed.image.channels[usize::from(target % 8)];
+            let channel = &mut listed.machine.image.channels[usize::from(target % 8)];
             channel.dmap = way | mode | channel.dmap & 0x78;
             channel.bbad = target.wrapping_sub(offset);
             (channel.a1t_bank, channel.a1t_addr) = a_side(lot);
@@ -116,13 +114,13 @@ fn all_dmaps() -> Vec<u8> {
 /// The table stands in work RAM, with an address behind its counter; the queue starts with this channel.
 fn hdma_call(lot: &mut Lot, line: Line, dmap: u8, number: u8) -> Call {
     let mut listed = lot.machine();
-    let dma = &mut listed.image.dma;
+    let dma = &mut listed.machine.image.dma;
     (dma.state, dma.wait, dma.pending) = (HDMA, 0, 0);
     (dma.init, dma.running) = (matches!(line, Line::Init(_)).into(), lot.random.byte() % 2);
     dma.queue = (0xFF << number) & (lot.random.byte() | 1 << number);
     // MDMAEN would start a transfer of its own.
-    listed.image.mdmaen = if dma.running == 0 { 0 } else { listed.image.mdmaen };
-    let state = &mut listed.image.lines[usize::from(number)];
+    listed.machine.image.mdmaen = if dma.running == 0 { 0 } else { listed.machine.image.mdmaen };
+    let state = &mut listed.machine.image.lines[usize::from(number)];
     state.finished = matches!(line, Line::Finished).into();
     let first = match line {
         Line::Init(counter) | Line::Reload(counter) => counter,
@@ -133,7 +131,7 @@ fn hdma_call(lot: &mut Lot, line: Line, dmap: u8, number: u8) -> Call {
         Line::Goes(counter, transfers) => (state.counter, state.do_transfer) = (counter, transfers.into()),
         _ => {}
     }
-    let channel = &mut listed.image.channels[usize::from(number)];
+    let channel = &mut listed.machine.image.channels[usize::from(number)];
     channel.dmap = dmap | lot.random.byte() & 0x38;
     channel.bbad = lot.random.pick(&[0x80, 0x80, 0x81, 0x18, 0x40, 0x3F, 0xFF]);
     channel.dasb = lot.random.pick(&[0x7E, 0x7F, 0x00, 0x80]);

@@ -1,9 +1,10 @@
 //! What all draws share: a sound call on a machine drawn within the ranges, and help to change it.
 
+use super::answer::lay;
 use super::{Call, Listed};
 use crate::any_image::any_image;
-use crate::image::{Image, Old, Place};
-use crate::lent::BANK_SIZE;
+use crate::image::{Image, Machine, Old, Place};
+use crate::lent::{BANK_SIZE, Banks, WRAM_SIZE};
 use crate::random::Random;
 use crate::row::Row;
 
@@ -15,9 +16,14 @@ const COUNTERS: [u8; 6] = [0, 1, 2, 0x80, 0x81, 0xFF];
 
 pub struct Lot {
     pub random: Random,
+    banks: Banks,
 }
 
 impl Lot {
+    pub fn new(random: Random) -> Self {
+        Self { random, banks: Banks::filled(&[0]) }
+    }
+
     /// Any machine within the ranges with everything lent as it should be; the call is a cycle without event.
     pub fn machine(&mut self) -> Listed {
         let image = any_image(&mut self.random);
@@ -28,11 +34,10 @@ impl Lot {
     pub fn around(&mut self, image: Image) -> Listed {
         let capacity = self.random.between(1, 4);
         let fill = std::array::from_fn(|_| self.table_byte());
+        let next_slot = self.random.between(0, capacity - 1);
+        let kept = self.random.between(0, capacity);
         Listed {
-            image,
-            next_slot: self.random.between(0, capacity - 1) as u32,
-            kept: self.random.between(0, capacity) as u32,
-            record_length: 256 * capacity as u32,
+            machine: Machine { image, next_slot, kept, record_length: 256 * capacity, sum: 0 },
             lent_record: 256 * capacity as u32,
             lent_low: BANK_SIZE as u32,
             lent_high: BANK_SIZE as u32,
@@ -53,6 +58,27 @@ impl Lot {
 
     pub fn system_bank(&mut self) -> u8 {
         self.random.byte() & 0xBF
+    }
+
+    /// Any place of work RAM.
+    pub fn place(&mut self) -> u32 {
+        self.random.word() as u32 % WRAM_SIZE as u32
+    }
+
+    /// The sum of the banks that a call is lent.
+    pub fn true_sum(&mut self, listed: &Listed) -> u32 {
+        lay(&mut self.banks, listed);
+        self.banks.sum()
+    }
+
+    /// Gives each call a sum: the true one of the banks lent, or, for six in sixteen, any other, off by one or at an end.
+    pub fn draw_sums(&mut self, calls: &mut [Call]) {
+        for call in calls {
+            let (truth, any) = (self.true_sum(&call.listed), self.random.word() as u32);
+            let others = [truth.wrapping_add(1), truth.wrapping_sub(1), 0, u32::MAX, any, any];
+            let at = self.random.between(0, 15) as usize;
+            call.listed.machine.sum = others.get(at).copied().unwrap_or(truth);
+        }
     }
 
     fn table_byte(&mut self) -> u8 {

@@ -1,4 +1,4 @@
-//! Single calls as a fixed list: what is lent and asked stands in 304 bytes, for a back step with an entry behind them.
+//! Single calls as a fixed list: what is lent and asked stands in 354 bytes, for a back step with an entry behind them.
 //! docs/CALLS.md has the places and the form of an answer.
 
 mod aimed;
@@ -9,8 +9,9 @@ pub mod even;
 mod lot;
 mod refused;
 mod runs;
+mod sums;
 
-use crate::image::{ENTRY_SIZE, Image, Old};
+use crate::image::{ENTRY_SIZE, Machine, Old};
 use crate::layout::{Field, fields};
 use crate::row::Row;
 
@@ -24,10 +25,7 @@ pub const UNWRITTEN: u8 = 0xEE;
 
 fields! {
     Listed {
-        image: Image,
-        next_slot: u32,
-        kept: u32,
-        record_length: u32,
+        machine: Machine,
         lent_record: u32,
         lent_low: u32,
         lent_high: u32,
@@ -42,7 +40,7 @@ fields! {
     }
 }
 
-const _: () = assert!(Listed::SIZE == 304);
+const _: () = assert!(Listed::SIZE == 354);
 
 /// A listed call, with the entry that stands in the record's slot `first` where it is a back step.
 #[derive(Clone)]

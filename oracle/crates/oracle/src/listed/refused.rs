@@ -3,7 +3,7 @@
 
 use super::lot::Lot;
 use super::{BACK, Call, Listed};
-use crate::image::ENTRY_SIZE;
+use crate::image::{ENTRY_SIZE, Machine};
 use crate::row::Row;
 
 /// What is wrong with a call.
@@ -12,31 +12,44 @@ const WRONGS: [fn(&mut Listed, &mut Lot); 16] = [
     |listed, lot| listed.lent_high = lot.random.pick(&[0, 0xFFFF, 0x10001]),
     |listed, lot| listed.lent_record = lot.random.pick(&[0, 255, 257, 1023]),
     |listed, _| listed.lent_record = if listed.lent_record == 1024 { 768 } else { listed.lent_record + 256 },
-    |listed, lot| listed.record_length = lot.random.pick(&[0, 255, 257, 2048]),
-    |listed, _| listed.lent_rom = 4_194_305,
-    |listed, lot| listed.image.bit_cycles = lot.random.pick(&[0, 4_097, 0xFFFF]),
     |listed, lot| {
-        let auto = &mut listed.image.auto;
+        listed.machine.record_length =
+            lot.random.pick(&[0, 255, 257, 2048, listed.machine.record_length | OVER_32_BITS]);
+    },
+    |listed, _| listed.lent_rom = 4_194_305,
+    |listed, lot| listed.machine.image.bit_cycles = lot.random.pick(&[0, 4_097, 0xFFFF]),
+    |listed, lot| {
+        let auto = &mut listed.machine.image.auto;
         (auto.kind, auto.bits_left, auto.countdown) = (1, 0, lot.random.pick(&[298, 0xFFFF_FFFF]));
     },
     |listed, lot| {
-        let auto = &mut listed.image.auto;
+        let auto = &mut listed.machine.image.auto;
         (auto.kind, auto.bits_left, auto.countdown) = (2, lot.random.pick(&[0, 17, 0xFF]), 0);
     },
     |listed, _| {
-        let auto = &mut listed.image.auto;
-        (auto.kind, auto.bits_left, auto.countdown) = (2, 1, listed.image.bit_cycles.into());
+        let auto = &mut listed.machine.image.auto;
+        (auto.kind, auto.bits_left, auto.countdown) = (2, 1, listed.machine.image.bit_cycles.into());
     },
-    |listed, lot| listed.image.ports[usize::from(lot.random.byte() % 2)].buttons |= lot.random.pick(&[1, 2, 4, 8]),
-    |listed, lot| listed.image.pads[usize::from(lot.random.byte() % 2)] |= lot.random.pick(&[1, 2, 4, 8]),
     |listed, lot| {
-        let dma = &mut listed.image.dma;
+        listed.machine.image.ports[usize::from(lot.random.byte() % 2)].buttons |= lot.random.pick(&[1, 2, 4, 8])
+    },
+    |listed, lot| listed.machine.image.pads[usize::from(lot.random.byte() % 2)] |= lot.random.pick(&[1, 2, 4, 8]),
+    |listed, lot| {
+        let dma = &mut listed.machine.image.dma;
         (dma.present, dma.channel) = (1, lot.random.pick(&[8, 0xFF]));
     },
-    |listed, lot| listed.image.dma.wait = lot.random.pick(&[56, 0xFFFF_FFFF]),
-    |listed, lot| listed.next_slot = lot.random.pick(&[listed.record_length / 256, 0xFFFF_FFFF]),
-    |listed, lot| listed.kept = lot.random.pick(&[listed.record_length / 256 + 1, 0xFFFF_FFFF]),
+    |listed, lot| listed.machine.image.dma.wait = lot.random.pick(&[56, 0xFFFF_FFFF]),
+    |listed, lot| {
+        let Machine { next_slot, record_length, .. } = listed.machine;
+        listed.machine.next_slot = lot.random.pick(&[record_length / 256, next_slot | OVER_32_BITS, u64::MAX]);
+    },
+    |listed, lot| {
+        let Machine { kept, record_length, .. } = listed.machine;
+        listed.machine.kept = lot.random.pick(&[record_length / 256 + 1, kept | OVER_32_BITS, u64::MAX]);
+    },
 ];
+/// Makes a number wrong that would be right if only its low 32 bits counted.
+const OVER_32_BITS: u64 = 1 << 32;
 
 /// Each call with each thing wrong, its own argument good and bad in turn.
 pub fn each(lot: &mut Lot, calls: &mut Vec<Call>) {
@@ -85,9 +98,9 @@ fn bad_argument(lot: &mut Lot, kind: u8, good: bool) -> Call {
     };
     let mut listed = lot.machine();
     if !good && lot.random.once_in(2) {
-        listed.image.clock = u64::MAX;
+        listed.machine.image.clock = u64::MAX;
     }
-    let row = if listed.image.clock == u64::MAX && kind == 1 { last_cycle(lot) } else { row };
+    let row = if listed.machine.image.clock == u64::MAX && kind == 1 { last_cycle(lot) } else { row };
     listed.call(row)
 }
 
@@ -103,7 +116,7 @@ fn bad_back(lot: &mut Lot, good: bool) -> Call {
         return call;
     }
     if lot.random.once_in(3) {
-        call.listed.kept = 0;
+        call.listed.machine.kept = 0;
     }
     let entry = call.entry.as_mut().expect("a back step has an entry");
     match lot.random.between(0, 6) {

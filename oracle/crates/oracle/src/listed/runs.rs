@@ -31,7 +31,7 @@ pub fn calls(lot: &mut Lot, seed: u64, index: u64) -> Vec<Call> {
 
 /// The banks are the start of the run's fill, with the bytes that the call read from work RAM where the run had them.
 fn call(lot: &mut Lot, step: &Step, fill: &[u8]) -> Call {
-    let mut listed = lot.around(*step.before);
+    let mut listed = lot.around(step.before.image);
     let length = fill.len().min(listed.fill.len());
     listed.fill[..length].copy_from_slice(&fill[..length]);
     listed.fill_length = length as u8;
@@ -40,9 +40,9 @@ fn call(lot: &mut Lot, step: &Step, fill: &[u8]) -> Call {
     if !matches!(step.call, Row::Back { .. }) {
         return listed.call(step.call);
     }
-    let capacity = listed.record_length / 256;
-    listed.kept = listed.kept.max(u32::from(step.number == 0));
-    (listed.kind, listed.first) = (BACK, ((listed.next_slot + capacity - 1) % capacity) as u8);
+    let capacity = listed.machine.record_length / 256;
+    listed.machine.kept = listed.machine.kept.max(u64::from(step.number == 0));
+    (listed.kind, listed.first) = (BACK, ((listed.machine.next_slot + capacity - 1) % capacity) as u8);
     let entry = step.entry.try_into().unwrap_or([super::UNWRITTEN; 256]);
     Call { listed, entry: Some(entry) }
 }

@@ -65,7 +65,7 @@ impl<'a> Pair<'a> {
         let slots = random.pick(&[1, 2, 3, 7, 20]);
         let record = random.bytes(slots * ENTRY_SIZE);
         let bytes = random.bytes(MACHINE_SIZE);
-        let bytes = bytes.try_into().expect("a machine's bytes");
+        let bytes: [u8; MACHINE_SIZE] = bytes.try_into().expect("a machine's bytes");
         let (entries, lengths) = (record.clone(), [BANK_SIZE, BANK_SIZE, record.len()]);
         Self {
             machine: Machine::take(&bytes),

@@ -35,67 +35,49 @@ module _ (rom : List ℕ) (d : Desk) {lent : ℕ} (p : lent ≡ lentOf d (length
     unfolding cycleCall
     cycle-refused z l = cc
 
-    cycle-noted : {e : Event} {t : Turned} {m : Machine} {s : ℕ} {x : Noted} → eqb n 0 ≡ true → e ≡ eventOf event
-        → t ≡ cycled rom (d .bench .machine) (d .ram .low) (d .ram .high) e line timer → m ≡ machineAfter t
-        → s ≡ follows (d .bench .sum) (d .ram) (t .after .world .ram)
-        → x ≡ noted (d .bench) (d .entries) m (t .after .world .core .olds) s
-        → _≡_ {A = CycleOut} (record { number = 0; held = t .held; edge = t .edge; log = t .after .world .core .log; desk = record { bench = x .bench; ram = t .after .world .ram; entries = x .entries } }) (cycleCall rom d event line timer)
-    unfolding cycleCall
-    cycle-noted z a b c s e = cc
-
     pub cycle-done : {e : Event} {t : Turned} {m : Machine} {s : ℕ} {x : Noted} → eqb n 0 ≡ true → e ≡ eventOf event
         → t ≡ cycled rom (d .bench .machine) (d .ram .low) (d .ram .high) e line timer → m ≡ machineAfter t
         → s ≡ follows (d .bench .sum) (putBack (t .after .world .core .olds) (t .after .world .ram)) (t .after .world .ram)
         → x ≡ noted (d .bench) (d .entries) m (t .after .world .core .olds) s
         → _≡_ {A = CycleOut} (record { number = 0; held = t .held; edge = t .edge; log = t .after .world .core .log; desk = record { bench = x .bench; ram = t .after .world .ram; entries = x .entries } }) (cycleCall rom d event line timer)
+    unfolding cycleCall
     cycle-done {e} {t} z a b c s x =
         let back = cycle-recorded rom (d .bench .machine) (d .ram .low) (d .ram .high) e line timer .back in
-        cycle-noted z a b c (sum-by d (t .after .world .ram) s (ap (λ (t : Turned). putBack (t .after .world .core .olds) (t .after .world .ram)) b ∙ back)) x
+        let sum = sum-by d (t .after .world .ram) s (ap (λ (t : Turned). putBack (t .after .world .core .olds) (t .after .world .ram)) b ∙ back) in
+        cc
 
   module _ (bank addr : ℕ) where
     pub read-refused : eqb lent 0 ≡ false → _≡_ {A = ReadOut} (record { number = lent; byte = 0; cost = 0; desk = d }) (readCall rom d bank addr)
     unfolding readCall
     read-refused z = cc
 
-    read-noted : {k : Core} {r : Reading} {m : Machine} {s : ℕ} {x : Noted} {c : ℕ} → eqb lent 0 ≡ true → k ≡ opened (d .bench .machine .io)
-        → r ≡ readAt rom (record { core = k; ram = d .ram }) bank addr → m ≡ withIo (d .bench .machine) (r .world .core .io)
-        → s ≡ follows (d .bench .sum) (d .ram) (r .world .ram)
-        → x ≡ noted (d .bench) (d .entries) m (r .world .core .olds) s → c ≡ costOf (d .bench .machine .io .enables .memsel) bank addr
-        → _≡_ {A = ReadOut} (record { number = 0; byte = r .byte; cost = c; desk = record { bench = x .bench; ram = r .world .ram; entries = x .entries } }) (readCall rom d bank addr)
-    unfolding readCall
-    read-noted z a b c s e f = cc
-
     pub read-done : {k : Core} {r : Reading} {m : Machine} {s : ℕ} {x : Noted} {c : ℕ} → eqb lent 0 ≡ true → k ≡ opened (d .bench .machine .io)
         → r ≡ readAt rom (record { core = k; ram = d .ram }) bank addr → m ≡ withIo (d .bench .machine) (r .world .core .io)
         → s ≡ follows (d .bench .sum) (putBack (r .world .core .olds) (r .world .ram)) (r .world .ram)
         → x ≡ noted (d .bench) (d .entries) m (r .world .core .olds) s → c ≡ costOf (d .bench .machine .io .enables .memsel) bank addr
         → _≡_ {A = ReadOut} (record { number = 0; byte = r .byte; cost = c; desk = record { bench = x .bench; ram = r .world .ram; entries = x .entries } }) (readCall rom d bank addr)
+    unfolding readCall
     read-done {k} {r} z a b c s e f =
         let back = read-recorded rom (d .bench .machine .io) (d .ram .low) (d .ram .high) bank addr .back in
         let is = b ∙ ap (λ (k : Core). readAt rom (record { core = k; ram = d .ram }) bank addr) a in
-        read-noted z a b c (sum-by d (r .world .ram) s (ap (λ (r : Reading). putBack (r .world .core .olds) (r .world .ram)) is ∙ back)) e f
+        let sum = sum-by d (r .world .ram) s (ap (λ (r : Reading). putBack (r .world .core .olds) (r .world .ram)) is ∙ back) in
+        cc
 
     pub write-refused : (byte : ℕ) → eqb lent 0 ≡ false → _≡_ {A = WriteOut} (record { number = lent; cost = 0; desk = d }) (writeCall rom d bank addr byte)
     unfolding writeCall
     write-refused byte z = cc
-
-    write-noted : (byte : ℕ) {k : Core} {w : World} {m : Machine} {s : ℕ} {x : Noted} {c : ℕ} → eqb lent 0 ≡ true → k ≡ opened (d .bench .machine .io)
-        → w ≡ writeAt (record { core = k; ram = d .ram }) bank addr byte → m ≡ withIo (d .bench .machine) (w .core .io)
-        → s ≡ follows (d .bench .sum) (d .ram) (w .ram)
-        → x ≡ noted (d .bench) (d .entries) m (w .core .olds) s → c ≡ costOf (d .bench .machine .io .enables .memsel) bank addr
-        → _≡_ {A = WriteOut} (record { number = 0; cost = c; desk = record { bench = x .bench; ram = w .ram; entries = x .entries } }) (writeCall rom d bank addr byte)
-    unfolding writeCall
-    write-noted byte z a b c s e f = cc
 
     pub write-done : (byte : ℕ) {k : Core} {w : World} {m : Machine} {s : ℕ} {x : Noted} {c : ℕ} → eqb lent 0 ≡ true → k ≡ opened (d .bench .machine .io)
         → w ≡ writeAt (record { core = k; ram = d .ram }) bank addr byte → m ≡ withIo (d .bench .machine) (w .core .io)
         → s ≡ follows (d .bench .sum) (putBack (w .core .olds) (w .ram)) (w .ram)
         → x ≡ noted (d .bench) (d .entries) m (w .core .olds) s → c ≡ costOf (d .bench .machine .io .enables .memsel) bank addr
         → _≡_ {A = WriteOut} (record { number = 0; cost = c; desk = record { bench = x .bench; ram = w .ram; entries = x .entries } }) (writeCall rom d bank addr byte)
+    unfolding writeCall
     write-done byte {k} {w} z a b c s e f =
         let back = write-recorded (d .bench .machine .io) (d .ram .low) (d .ram .high) bank addr byte .back in
         let is = b ∙ ap (λ (k : Core). writeAt (record { core = k; ram = d .ram }) bank addr byte) a in
-        write-noted byte z a b c (sum-by d (w .ram) s (ap (λ (w : World). putBack (w .core .olds) (w .ram)) is ∙ back)) e f
+        let sum = sum-by d (w .ram) s (ap (λ (w : World). putBack (w .core .olds) (w .ram)) is ∙ back) in
+        cc
 
   module _ {n : ℕ} {m : Machine} {x : Hosting} (r : x ≡ hosted (d .bench) (d .entries) n m) where
     pub pad-by : (port w : ℕ) → n ≡ portNumber lent port → m ≡ padSet (d .bench .machine) port w → onBanks (d .ram) x ≡ padCall rom d port w

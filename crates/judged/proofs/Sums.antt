@@ -25,7 +25,7 @@ use Rattle.rewind.proofs.Calls.{lent-sound, op-keeps}
 use Rattle.rewind.specs.Rules.{write, obeyed}
 use Rattle.wram.proofs.SumLaws.{follow-put, follow-true, sum-below}
 use Rattle.wram.specs.declared.Place.the-variants.{Bank7E}
-use Rattle.wram.specs.{Banks.Banks, Banks.banks, Banks.poked, Olds.putBack, Sum.ramSum, Sum.follows, Sum.inside}
+use Rattle.wram.specs.{Banks.Banks, Banks.banks, Banks.poked, Olds.putBack, Change.inside, Sum.ramSum, Sum.follows}
 
 -- ---- every accepted call: the sum given, changed by what the banks changed
 

@@ -11,7 +11,8 @@ use lib.Seq.{take-suc, take-all, set-out, getD-set-same, getD-set-other}
 use Rattle.common.specs.Pick.{pick}
 use Rattle.wram.specs.Banks.{Banks, peeked, poked}
 use Rattle.wram.specs.Olds.{noOld, oldPlace, backFrom, putBack}
-use Rattle.wram.specs.Sum.{total, ramSum, follows, samePlace, firstThere, inside, counts, stands, stood, changeOf}
+use Rattle.wram.specs.Change.{samePlace, firstThere, inside, counts, stands, stood, changeOf}
+use Rattle.wram.specs.Sum.{total, ramSum, follows}
 use Rattle.wram.specs.declared.{Old.Old, Olds.Olds, Place.Place, sum.Change.Change}
 use Rattle.wram.specs.declared.Place.the-variants.{Nowhere, Bank7E, Bank7F}
 

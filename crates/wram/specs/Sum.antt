@@ -1,14 +1,7 @@
 -- The sum of all bytes of work RAM, modulo 2^32 (document 02, request 2), and how a sum beside the banks follows them.
-use Prim.Native.Nat.{ℕ, zero, suc, _+_, _-_, _%_, _^_, min}
-use mathlib.Core.Bool.{Bool, true, false, not, _&&_, Bool·beq}
+use Prim.Native.Nat.{ℕ, _+_, _-_, _%_, _^_}
 use mathlib.Core.List.{List, [], _∷_}
-use lib.Dec.{eqb, ltb}
-use lib.ListN.{length, getD}
-use Rattle.common.specs.Pick.{pick}
-use Rattle.wram.specs.Banks.{Banks, peeked}
-use Rattle.wram.specs.Olds.{noOld, oldPlace}
-use Rattle.wram.specs.declared.{Old.Old, Olds.Olds, Place.Place, sum.Change.Change}
-use Rattle.wram.specs.declared.Place.the-variants.{Nowhere, Bank7E, Bank7F}
+use Rattle.wram.specs.Banks.{Banks}
 
 -- the bytes of a bank, added up
 unfoldable pub total : List ℕ → ℕ
@@ -22,38 +15,3 @@ ramSum b = (total (b .low) + total (b .high)) % 2 ^ 32
 -- a sum that stands beside the banks changes by what theirs changes, so that a false one stays false by the same amount
 unfoldable pub follows : ℕ → (before after : Banks) → ℕ
 follows sum before after = (sum + ramSum after + (2 ^ 32 - ramSum before)) % 2 ^ 32
-
--- ---- the change, from the bytes overwritten: for contracts of private functions; no definition of a call needs these
-
--- whether two old bytes are of one place
-abbrev pub samePlace : Old → Old → Bool
-samePlace o p = eqb (o .addr) (p .addr) && Bool·beq (o .high) (p .high)
-
--- none of the first n old bytes is of the same place
-unfoldable pub firstThere : ℕ → Olds → Old → Bool
-firstThere zero olds o = true
-firstThere (suc n) olds o = firstThere n olds o && not (samePlace (getD (olds .items) n noOld) o)
-
--- whether the banks have a place
-abbrev pub inside : Banks → Place → Bool
-inside b Nowhere = false
-inside b (Bank7E a) = ltb a (length (b .low))
-inside b (Bank7F a) = ltb a (length (b .high))
-
--- old byte n counts if it is the first of its place, and the banks have that place
-abbrev pub counts : ℕ → Olds → Banks → Bool
-counts n olds b = let o = getD (olds .items) n noOld in firstThere n olds o && inside b (oldPlace o)
-
--- what stands now at the places of the first n old bytes, each place once
-unfoldable pub stands : ℕ → Olds → Banks → ℕ
-stands zero olds b = 0
-stands (suc n) olds b = stands n olds b + pick (counts n olds b) (peeked b (oldPlace (getD (olds .items) n noOld))) 0
-
--- what stood there before
-unfoldable pub stood : ℕ → Olds → Banks → ℕ
-stood zero olds b = 0
-stood (suc n) olds b = stood n olds b + pick (counts n olds b) (getD (olds .items) n noOld .byte) 0
-
--- of all of them
-abbrev pub changeOf : Olds → Banks → Change
-changeOf olds b = let n = min (olds .count) 4 in record { stands = stands n olds b; stood = stood n olds b }

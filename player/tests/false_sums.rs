@@ -1,20 +1,13 @@
 //! Request 2/12 on the machine's bytes: fresh's sum, refused or not, and machines that come with a false sum. No call tests
 //! a sum, so a false one stays false by the same amount, modulo 2^32.
 
+mod parts;
+
 use cloverwain::BANK_SIZE;
 use cloverwain::raw::{self, ANSWER_SIZE, Lent, MACHINE_SIZE, RECORD_LENGTH, SUM};
+use parts::Parts;
 
 const RIGHT: usize = BANK_SIZE;
-
-/// A machine's bytes and what its calls are lent.
-#[derive(Clone, PartialEq)]
-struct Parts {
-    machine: [u8; MACHINE_SIZE],
-    low: Vec<u8>,
-    high: Vec<u8>,
-    record: Vec<u8>,
-    rom: Vec<u8>,
-}
 
 /// Bytes of every value.
 fn bank(step: usize) -> Vec<u8> {
@@ -23,30 +16,13 @@ fn bank(step: usize) -> Vec<u8> {
         .collect()
 }
 
+/// A fresh machine with a record of so many slots.
+fn with_slots(slots: usize) -> Parts {
+    let rom = vec![0x80, 0x5A, 0x01];
+    Parts::fresh(bank(7), bank(13), vec![0; 256 * slots], rom)
+}
+
 impl Parts {
-    fn fresh(slots: usize) -> Self {
-        let (low, high) = (bank(7), bank(13));
-        let (mut machine, record) = ([0xEE; MACHINE_SIZE], vec![0; 256 * slots]);
-        assert_eq!(raw::fresh(&mut machine, &low, &high, record.len(), 264), 0);
-        Self {
-            machine,
-            low,
-            high,
-            record,
-            rom: vec![0x80, 0x5A, 0x01],
-        }
-    }
-
-    fn lent(&mut self) -> Lent<'_> {
-        Lent {
-            machine: &mut self.machine,
-            low: &mut self.low,
-            high: &mut self.high,
-            record: &mut self.record,
-            rom: &self.rom,
-        }
-    }
-
     fn sum(&self) -> u32 {
         u32::from_le_bytes(self.machine[SUM..].try_into().expect("four bytes"))
     }
@@ -136,7 +112,7 @@ fn a_false_sum_stays_false_by_the_same_amount() {
     let mut random = Random(2);
     let any = random.next();
     for false_sum in [0, 1, u32::MAX, any] {
-        let mut good = Parts::fresh(7);
+        let mut good = with_slots(7);
         let mut bad = good.clone();
         bad.set_sum(false_sum);
         let amount = false_sum.wrapping_sub(good.sum());
@@ -158,7 +134,7 @@ fn a_false_sum_stays_false_by_the_same_amount() {
 
 #[test]
 fn a_false_sum_goes_past_both_ends() {
-    let mut parts = Parts::fresh(4);
+    let mut parts = with_slots(4);
     parts.low[0x1234] = 100;
     for (sum, byte, after) in [
         (0, 99, u32::MAX),
@@ -175,7 +151,7 @@ fn a_false_sum_goes_past_both_ends() {
 
 #[test]
 fn banks_altered_between_calls_leave_the_sum_false_by_that_much() {
-    let mut parts = Parts::fresh(4);
+    let mut parts = with_slots(4);
     assert_eq!(write(0x7E, 0x1234, 0x11)(parts.lent()), 0);
     let sum = parts.sum();
     parts.low[0x1234] = 0x51;
@@ -215,7 +191,7 @@ fn operations() -> Vec<Call> {
 
 #[test]
 fn a_refused_call_leaves_every_byte() {
-    let mut sound = Parts::fresh(4);
+    let mut sound = with_slots(4);
     refused(8, &sound, &[back()]);
     for operation in operations() {
         assert_eq!(operation(sound.lent()), 0);

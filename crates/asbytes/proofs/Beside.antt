@@ -1,48 +1,18 @@
 -- The sum beside the image: a machine that keeps its sum keeps those bytes, whatever else is laid over its bytes.
-use Prim.Native.Nat.{ℕ, zero, suc, _+_, _-_, _^_, _≤_, _<_}
+use Prim.Native.Nat.{ℕ, zero, suc, _+_, _^_, _≤_, _<_}
 use mathlib.Core.List.{List, [], _∷_, _++_, append-nil}
 use mathlib.Core.Path.{_≡_, refl, sym, ap, _∙_}
 use native.Mathlib.Omega.{arith}
-use borrow.Author.Tests.{leb-true, le-leb}
-use lib.Dec.{leb}
-use lib.ListN.{length, getD, take, drop, length-append, length-drop, take-append-drop, drop-of-length-le}
-use lib.Seq.{length-take-le, drop-append-add, drop-drop, drop-cons}
-use Rattle.common.proofs.{AllLaws.byte-fits, TableLaws.pick-case}
+use borrow.Author.Tests.{le-leb}
+use lib.ListN.{length, getD, take, drop, take-append-drop, drop-of-length-le}
+use lib.Seq.{drop-cons}
+use Rattle.common.proofs.AllLaws.{byte-fits}
 use Rattle.common.specs.Width.{Bytes}
-use Rattle.fields.proofs.Number.{field-below, span-back}
+use Rattle.fields.proofs.{Number.field-below, Number.span-back, Patch.length-patched, Patch.drop-patched}
 use Rattle.fields.specs.{Little.le, Little.span, Patch.patched}
 use Rattle.asbytes.specs.Machine.{counted, summed}
 use Rattle.asbytes.specs.Places as at
 use Rattle.asbytes.specs.Places.{beside, machineSize, sumAt}
-
--- ---- bytes laid over others
-
-module _ (d s : List ℕ) (k : ℕ) where
-  over : k + length s ≤ length d → length (take k d ++ s) ≡ k + length s
-  over h = length-append (take k d) s ∙ ap (λ (n : ℕ). n + length s) (length-take-le k d (omega (arith, h)))
-
-  length-patched : length (patched d k s) ≡ length d
-  length-patched =
-      pick-case (λ (x : List ℕ). length x ≡ length d) (leb (k + length s) (length d))
-      (λ t.
-      let h = leb-true (k + length s) (length d) t in
-      length-append (take k d ++ s) (drop (k + length s) d) ∙ omega (arith, h, over h, length-drop (k + length s) d))
-      (λ t. refl)
-
-  -- what stands behind them
-  drop-patched : (n : ℕ) → k + length s ≤ n → drop n (patched d k s) ≡ drop n d
-  drop-patched n h =
-      pick-case (λ (x : List ℕ). drop n x ≡ drop n d) (leb (k + length s) (length d))
-      (λ t.
-      let l = over (leb-true (k + length s) (length d) t) in
-      let j = n - (k + length s) in
-      let to : n ≡ length (take k d ++ s) + j = omega (arith, h, l) in
-      let on : k + length s + j ≡ n = omega (arith, h) in
-      ap (λ (i : ℕ). drop i (take k d ++ s ++ drop (k + length s) d)) to
-      ∙ drop-append-add (take k d ++ s) (drop (k + length s) d) j
-      ∙ drop-drop j (k + length s) d
-      ∙ ap (λ (i : ℕ). drop i d) on)
-      (λ t. refl)
 
 -- the bytes from a place on, one by one
 span-drop : (n k : ℕ) (s : List ℕ) → k + n ≡ length s → span n s k ≡ drop k s

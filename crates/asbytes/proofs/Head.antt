@@ -4,9 +4,12 @@ use mathlib.Core.Bool.{true}
 use mathlib.Core.List.{List, _∷_, _++_}
 use mathlib.Core.Path.{_≡_, refl, sym, ap, _∙_}
 use native.Mathlib.Omega.{arith}
-use borrow.Author.Tests.{le-leb}
+use borrow.Author.Tests.{leb-true, le-leb}
+use lib.Dec.{leb}
 use lib.ListN.{length, getD, take, drop, take-append-drop}
-use lib.Seq.{getD-take}
+use lib.Seq.{getD-take, length-take-le}
+use Rattle.common.proofs.TableLaws.{pick-case}
+use Rattle.fields.proofs.Front.{laid-front}
 use Rattle.fields.specs.{Bytes.byteAt, Little.joined, Little.span, Patch.patched, Table.follow, Table.numberAt}
 use Rattle.layout.specs.Layout.{num, imageSize}
 use Rattle.layout.specs.Layout as the
@@ -17,17 +20,26 @@ use Rattle.asbytes.specs.Places.{beside, ofBeside, machineSize}
 beside-follow : follow beside imageSize ofBeside ≡ true
 beside-follow = refl
 
+-- as many bytes as an image has, also where there are too few
+pub head-long : (s : List ℕ) → length (headOf s) ≡ imageSize
+unfolding headOf
+head-long s =
+    pick-case (λ (l : List ℕ). length l ≡ imageSize) (leb imageSize (length s)) (λ t. length-take-le imageSize s (leb-true imageSize (length s) t)) (λ t. refl)
+
+pub head-take : (s : List ℕ) → imageSize ≤ length s → headOf s ≡ take imageSize s
+unfolding headOf
+head-take s room = rw (le-leb imageSize (length s) room) refl
+
 module _ (s : List ℕ) (long : length s ≡ machineSize) where
   abbrev x : List ℕ
   x = headOf s
 
   pub head-is : x ≡ take imageSize s
-  unfolding headOf
-  head-is = rw (le-leb imageSize (length s) (omega (arith, long))) refl
+  head-is = head-take s (omega (arith, long))
 
   -- another image in its place
   pub put-is : (e : List ℕ) → length e ≡ imageSize → patched s 0 e ≡ e ++ drop imageSize s
-  put-is e h = rw (h, long) refl
+  put-is = laid-front imageSize s (omega (arith, long))
 
   pub whole : x ++ drop imageSize s ≡ s
   whole = ap (λ (l : List ℕ). l ++ drop imageSize s) head-is ∙ take-append-drop imageSize s

@@ -16,7 +16,6 @@ use Rattle.layout.specs.Layout.{num}
 use Rattle.ranges.specs.Entry.{entryOk}
 use Rattle.state.specs.declared.Machine.{Machine}
 use Rattle.wram.specs.Olds.{noOlds}
-use Rattle.wram.specs.declared.Olds.{Olds}
 use Rattle.asbytes.specs.Answer.{encAccesses, accessesPlace, answered}
 use Rattle.asbytes.specs.Machine.{headOf, broken, machineOf, benchOf, counted, summed, stored, saved}
 use Rattle.asbytes.specs.Places as at
@@ -46,10 +45,6 @@ bench-by s p q x y z t = λ i. bench ((q ∙ ap machineOf p) i) (x i) (y i) (z i
 pub put-by : (d : List ℕ) (at : ℕ) {d′ x y : List ℕ} → d′ ≡ patched d at x → x ≡ y → d′ ≡ patched d at y
 put-by d at p q = p ∙ ap (λ (z : List ℕ). patched d at z) q
 
-pub image-by : (s : List ℕ) (m : Machine) {e s′ : List ℕ} {o : Olds} → o ≡ noOlds → e ≡ encode m o → s′ ≡ patched s 0 e
-    → s′ ≡ patched s 0 (encode m noOlds)
-image-by s m p q r = put-by s 0 r (q ∙ ap (encode m) p)
-
 pub counted-by : (s : List ℕ) (slot kept room : ℕ) {x y z : List ℕ} → x ≡ patched s (beside at.slot .start) (le 8 slot)
     → y ≡ patched x (beside at.kept .start) (le 8 kept) → z ≡ patched y (beside at.length .start) (le 8 room) → z ≡ counted s slot kept room
 unfolding counted
@@ -75,7 +70,7 @@ left-as n b s z = rw z refl
 
 -- ---- the answer
 
-pub answered-by : (out : List ℕ) (held edge : Bool) (log : Log) {a b x : List ℕ} → a ≡ patched out 0 (flag held ++ flag edge ++ byte (log .count))
-    → x ≡ encAccesses (log .items) → b ≡ patched a accessesPlace x → b ≡ answered held edge log out
+pub answered-by : (out : List ℕ) (held edge : Bool) (log : Log) {a b : List ℕ} → a ≡ patched out 0 (flag held ++ flag edge ++ byte (log .count))
+    → b ≡ patched a accessesPlace (encAccesses (log .items)) → b ≡ answered held edge log out
 unfolding answered
-answered-by out held edge log p q r = r ∙ (λ i. patched (p i) accessesPlace (q i))
+answered-by out held edge log p q = q ∙ (λ i. patched (p i) accessesPlace (encAccesses (log .items)))

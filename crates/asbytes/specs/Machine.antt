@@ -1,7 +1,7 @@
 -- The machine as it crosses to another language: its image without old bytes, then next slot, kept, record length and the sum of work RAM.
 use Prim.Native.Nat.{ℕ}
 use mathlib.Core.Bool.{_&&_}
-use mathlib.Core.List.{List}
+use mathlib.Core.List.{List, []}
 use lib.Dec.{eqb, leb}
 use lib.ListN.{length, take, replicate}
 use Rattle.common.specs.Pick.{pick}
@@ -21,6 +21,10 @@ use Rattle.asbytes.specs.Places.{beside, slotAt, countAt, lengthAt, sumA
 -- the image that the first bytes are; zeros, which no image is, where there are too few
 unfoldable pub headOf : List ℕ → List ℕ
 headOf s = pick (leb imageSize (length s)) (take imageSize s) (replicate imageSize 0)
+
+-- the same bytes where they stand; none, where there are too few: a byte past the end reads 0, so both read the same
+abbrev pub headIn : List ℕ → List ℕ
+headIn s = pick (leb imageSize (length s)) (take imageSize s) []
 
 -- a machine that breaks the ranges: bit cycles 0
 abbrev pub broken : Machine → Machine

@@ -1,7 +1,7 @@
 // The machine to and from its bytes.
 ghost use mathlib.Core.Path.{_≡_};
 ghost use denote.Ref.{now};
-ghost use Rattle.asbytes.specs.Machine.{headOf, machineOf, benchOf, counted, summed, stored, saved};
+ghost use Rattle.asbytes.specs.Machine.{headOf, headIn, machineOf, benchOf, counted, summed, stored, saved};
 ghost use Rattle.asbytes.specs.Places.{slotAt, countAt, lengthAt, sumAt};
 ghost use Rattle.fields.specs.Little.{le, field};
 ghost use Rattle.fields.specs.Patch.{patched};
@@ -12,13 +12,14 @@ use crate::LENGTH;
 use crate::SLOT;
 use crate::SUM;
 use decode::machine_at;
+use fields::clear;
 use fields::eight_bytes;
 use fields::four_bytes;
 use fields::join8;
 use fields::put;
 use fields::word::byte;
 use fields::word::four;
-use image::entry_bytes;
+use image::put_fields;
 use layout::IMAGE_SIZE;
 use layout::OLD_COUNT;
 use ranges::entry::entry_ok;
@@ -38,18 +39,38 @@ pub fn head_bytes(s: &[u8]) -> [u8; IMAGE_SIZE]
     e
 }
 
+// The same, straight over the first bytes of `part`.
+pub fn put_head(part: &mut [u8], s: &[u8])
+    ensures { λ _. ⌜ now (part .exit) ≡ patched (now (part .entry)) 0 (headOf (now (s .entry))) ⌝ }
+{
+    if IMAGE_SIZE <= s.len() {
+        put(part, 0, &s[0..IMAGE_SIZE]);
+    } else {
+        clear(part, IMAGE_SIZE);
+    }
+}
+
+// The same bytes where they stand; none, where there are too few.
+pub fn head(s: &[u8]) -> &[u8]
+    ensures { λ r. ⌜ now r ≡ headIn (now (s .entry)) ⌝ }
+{
+    if IMAGE_SIZE <= s.len() {
+        return &s[0..IMAGE_SIZE];
+    }
+    &s[0..0]
+}
+
 // Bytes that are no image, or carry old bytes, give a machine that every call refuses by 4.
 fn machine_of(e: [u8; IMAGE_SIZE]) -> Machine
     ensures { λ r. ⌜ r ≡ machineOf e ⌝ }
 {
     let ok = entry_ok(e);
-    let m = machine_at(e);
+    let mut m = machine_at(e);
     if ok & (e[OLD_COUNT] == 0) {
         return m;
     }
-    let mut o = m;
-    o.board.bitcycles = 0;
-    o
+    m.board.bitcycles = 0;
+    m
 }
 
 // The number in eight bytes; a byte past the end reads 0.
@@ -140,8 +161,7 @@ fn put_machine(s: &mut [u8], m: Machine)
     ensures { λ _. ⌜ now (s .exit) ≡ patched (now (s .entry)) 0 (encode m noOlds) ⌝ }
 {
     let olds = no_olds();
-    let e = entry_bytes(m, olds);
-    put(s, 0, &e);
+    put_fields(s, m, olds);
 }
 
 pub fn store(s: &mut [u8], b: Bench)

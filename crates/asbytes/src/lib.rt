@@ -21,3 +21,5 @@ pub const ACCESSES: usize = 3;
 pub const ACCESS_SIZE: usize = 5;
 
 pub const ACCESSES_SIZE: usize = 55;
+
+pub const ANSWER_SIZE: usize = ACCESSES + ACCESSES_SIZE;

@@ -1,40 +1,42 @@
 -- The steps of a byte moved on the machine's bytes, joined.
 use Prim.Native.Nat.{ℕ, _+_, _%_, _^_, _≤_}
 use mathlib.Core.Bool.{Bool, true, false, not, _&&_}
-use mathlib.Core.List.{List, _++_}
-use mathlib.Core.Path.{_≡_, sym, ap, _∙_}
+use mathlib.Core.List.{List, [], _++_}
+use mathlib.Core.Path.{_≡_, refl, sym, ap, _∙_}
 use native.Mathlib.Omega.{arith}
 use lib.Dec.{eqb, leb, ltb}
-use lib.ListN.{set, replicate}
+use lib.ListN.{length, take, set, replicate, length-set}
 use Rattle.common.specs.Pick.{pick}
+use Rattle.common.proofs.TableLaws.{pick-elim}
 use Rattle.asbytes.specs.Answer.{encAccess, accessesPlace, answered}
-use Rattle.asbytes.specs.{Crossed.crossed, Machine.headOf, Machine.summed}
+use Rattle.asbytes.specs.{Crossed.crossed, Machine.headOf, Machine.headIn, Machine.summed}
+use Rattle.asbytes.proofs.Head.{head-long}
 use Rattle.asbytes.specs.Places.{slotAt, countAt, lengthAt, sumAt}
-use Rattle.bus.specs.{Access.pushAccess, Route.routeOf}
+use Rattle.bus.specs.{Access.pushAccess, Route.systemRoute, Route.routeOf, Route.placeOf}
 use Rattle.bus.specs.declared.route.Route.{Route}
 use Rattle.entry.specs.Slot.{writeSlot}
 use Rattle.fields.specs.{Bytes.byteAt, Patch.patched}
 use Rattle.fields.specs.Little.{le, span, field}
+use Rattle.fields.proofs.Patch.{length-patched}
 use Rattle.image.specs.{Encode.encOlds, Groups.byte, Groups.flag}
 use Rattle.layout.specs.Layout as the
 use Rattle.layout.specs.Layout.{num, imageSize, entrySize}
-use Rattle.registers.specs.declared.wm_address.WmAddress.{WmAddress}
-use Rattle.transfer.specs.{Bits.flagOf, Bits.down, Byte.movedLog, Byte.nextA1t}
+use Rattle.transfer.specs.{Bits.flagOf, Bits.down, Byte.movedLog, Byte.nextA1t, Byte.tripOf, Pattern.offsetOf}
 use Rattle.transfer.specs.declared.byte.Trip.{Trip}
-use Rattle.way.specs.Seen.{clockAt, nmiAt, baseAt, unitAt, dmapAt, bsideAt, tripIn}
+use Rattle.way.specs.Seen.{clockAt, nmiAt, busyAt, baseAt, unitAt, dmapAt, a1tAt, dasAt, bsideAt, tripIn}
 use Rattle.wram.specs.Banks.{banks, peeked, poked}
 use Rattle.wram.specs.{Olds.noOlds, Olds.keptAt, Sum.follows, declared.Olds.Olds, declared.Place.Place}
-use Rattle.inplace.specs.OneByte.{wmaddBytes, placeFor, byteBy, byteFrom, wmaddNext, writtenNext, afterRegisters, afterUnit, afterChannel, afterMove, carried}
+use Rattle.inplace.specs.OneByte.{wmaddBytes, placeFor, byteBy, byteFrom, wmaddNext, writtenNext, afterMove, carried}
 use Rattle.inplace.specs.Rest.{at, counting}
 
 -- a channel's registers stand inside the image
 pub in-image : (e : List ℕ) {base : ℕ} → base ≡ baseAt e → base + 12 ≤ imageSize
 in-image e h = omega (arith, h)
 
-pub fetch-by : (e rom l h : List ℕ) (b a : ℕ) {place : Place} {held r : ℕ} {way told : Route} → place ≡ placeFor e b a
+pub byte-from-by : (e rom l h : List ℕ) (b a : ℕ) {place : Place} {held r : ℕ} {way told : Route} → place ≡ placeFor e b a
     → held ≡ peeked (banks l h) place → way ≡ routeOf b a → way ≡ told → r ≡ byteBy e rom told b a held → r ≡ byteFrom e rom l h b a
 unfolding byteFrom
-fetch-by e rom l h b a p q w t r =
+byte-from-by e rom l h b a p q w t r =
     r ∙ (λ i. byteBy e rom ((sym t ∙ w) i) b a ((q ∙ ap (peeked (banks l h)) p) i))
 
 pub moved-by : (out : List ℕ) (edge : Bool) (t : Trip) (v : ℕ) {a f g b c o : List ℕ} → a ≡ patched out 0 (flag true ++ flag edge ++ byte 2)
@@ -46,13 +48,13 @@ moved-by out edge t v p q r x y z =
     z ∙ (λ i. patched (p i) accessesPlace ((y ∙ (λ j. patched ((x ∙ (λ k. patched (replicate 55 0) 0 (q k))) j) 5 (r j))) i))
 
 -- the APU's bytes, where the byte goes there and where not
-module _ (e : List ℕ) (v : ℕ) {w : List ℕ} {base port : ℕ} {back : Bool} (hw : w ≡ span 4 e (at (the.written 0))) (hb : base ≡ baseAt e)
-    (hp : port ≡ bsideAt e) (hf : back ≡ flagOf (byteAt e base) 0x80) where
+module _ (e : List ℕ) (v : ℕ) {w : List ℕ} {base port dmap : ℕ} {back : Bool} (hw : w ≡ span 4 e (at (the.written 0))) (hb : base ≡ baseAt e)
+    (hp : port ≡ bsideAt e) (hd : dmap ≡ byteAt e base) (hf : back ≡ flagOf dmap 0x80) where
   abbrev toApu : Bool → ℕ → Bool
   toApu f p = not f && leb 0x2140 p && ltb p 0x2180
 
   to-apu : toApu back port ≡ toApu (flagOf (dmapAt e) 0x80) (bsideAt e)
-  to-apu = λ i. toApu ((hf ∙ (λ j. flagOf (byteAt e (hb j)) 0x80)) i) (hp i)
+  to-apu = λ i. toApu ((hf ∙ (λ j. flagOf ((hd ∙ ap (byteAt e) hb) j) 0x80)) i) (hp i)
 
   abbrev old : List ℕ
   old = span 4 e (at (the.written 0))
@@ -65,58 +67,106 @@ module _ (e : List ℕ) (v : ℕ) {w : List ℕ} {base port : ℕ} {back : Bool}
   unfolding writtenNext
   unwritten-by t = hw ∙ (λ i. pick ((sym t ∙ to-apu) i) (set old (bsideAt e % 4) v) old)
 
--- the image after a byte, by steps: the registers, the unit, the channel, ports and clock
-module _ (e : List ℕ) where
-  pub registers-by : (v : ℕ) {wm : WmAddress} {line : Bool} {w x1 x2 x3 : List ℕ} → wm ≡ wmaddNext e → w ≡ wmaddBytes wm
-      → x1 ≡ patched e (at the.bank) w → x2 ≡ patched x1 (at the.openbus) (byte v) → line ≡ nmiAt e → x3 ≡ patched x2 (at the.nmi) (flag line)
-      → x3 ≡ afterRegisters e v
-  registers-by v hm hw h1 h2 hl h3 =
-      let y1 = h1 ∙ (λ i. patched e (at the.bank) ((hw ∙ ap wmaddBytes hm) i)) in
-      let y2 = h2 ∙ (λ i. patched (y1 i) (at the.openbus) (byte v)) in
-      h3 ∙ (λ i. patched (y2 i) (at the.nmi) (flag (hl i)))
+-- there are four of them
+pub written-long : (e : List ℕ) (v : ℕ) → length (writtenNext e v) ≡ 4
+unfolding writtenNext
+written-long e v =
+    let old = span 4 e (at (the.written 0)) in
+    pick-elim (λ (l : List ℕ). length l ≡ 4) (not (flagOf (dmapAt e) 0x80) && leb 0x2140 (bsideAt e) && ltb (bsideAt e) 0x2180) (length-set old (bsideAt e % 4) v) refl
 
-  pub unit-by : {unit next : ℕ} {x3 y3 steps x4 wait x5 : List ℕ} → x3 ≡ y3 → unit ≡ unitAt e → next ≡ (unit + 1) % 2 ^ 32 → steps ≡ le 4 next
-      → x4 ≡ patched x3 (at the.unit) steps → wait ≡ le 4 7 → x5 ≡ patched x4 (at the.wait) wait → x5 ≡ afterUnit e y3
-  unit-by h hu hn hs h4 ht h5 =
-      let y4 = h4 ∙ (λ i. patched (h i) (at the.unit) ((hs ∙ ap (le 4) (hn ∙ ap (λ (n : ℕ). (n + 1) % 2 ^ 32) hu)) i)) in
-      h5 ∙ (λ i. patched (y4 i) (at the.wait) (ht i))
+-- the channel's A1T and DAS after a byte
+module _ (e : List ℕ) {two : List ℕ} {base : ℕ} (hb : base ≡ baseAt e) where
+  pub a1t-by : {dmap a a2 : ℕ} → dmap ≡ byteAt e base → a ≡ field 2 e (base + 2) → a2 ≡ nextA1t dmap a → two ≡ le 2 a2
+      → two ≡ le 2 (nextA1t (dmapAt e) (a1tAt e))
+  a1t-by hd ha hn ht = ht ∙ ap (le 2) (hn ∙ (λ i. nextA1t ((hd ∙ ap (byteAt e) hb) i) ((ha ∙ ap (λ (n : ℕ). field 2 e (n + 2)) hb) i)))
 
-  pub channel-by : {base a a2 d d2 : ℕ} {x5 y5 two x6 das x7 : List ℕ} → base ≡ baseAt e → x5 ≡ y5 → a ≡ field 2 e (base + 2)
-      → a2 ≡ nextA1t (byteAt e base) a → two ≡ le 2 a2 → x6 ≡ patched x5 (base + 2) two → d ≡ field 2 e (base + 5) → d2 ≡ down 65536 d
-      → das ≡ le 2 d2 → x7 ≡ patched x6 (base + 5) das → x7 ≡ afterChannel e y5
-  channel-by hb h ha ha2 htwo h6 hd hd2 hdas h7 =
-      let a1t = ha2 ∙ (λ i. nextA1t (byteAt e (hb i)) ((ha ∙ ap (λ (n : ℕ). field 2 e (n + 2)) hb) i)) in
-      let y6 = h6 ∙ (λ i. patched (h i) (hb i + 2) ((htwo ∙ ap (le 2) a1t) i)) in
-      let less = hd2 ∙ ap (down 65536) (hd ∙ ap (λ (n : ℕ). field 2 e (n + 5)) hb) in
-      h7 ∙ (λ i. patched (y6 i) (hb i + 5) ((hdas ∙ ap (le 2) less) i))
+  pub das-by : {d d2 : ℕ} → d ≡ field 2 e (base + 5) → d2 ≡ down 65536 d → two ≡ le 2 d2 → two ≡ le 2 (down 65536 (dasAt e))
+  das-by hd hn ht = ht ∙ ap (le 2) (hn ∙ ap (down 65536) (hd ∙ ap (λ (n : ℕ). field 2 e (n + 5)) hb))
 
-  pub after-by : (v : ℕ) {clock later : ℕ} {x7 apu x8 x9 : List ℕ} → x7 ≡ afterChannel e (afterUnit e (afterRegisters e v)) → apu ≡ writtenNext e v
-      → x8 ≡ patched x7 (at (the.written 0)) apu → clock ≡ clockAt e → later ≡ (clock + 1) % 2 ^ 64 → x9 ≡ patched x8 (at the.clock) (le 8 later)
-      → x9 ≡ afterMove e v
-  unfolding afterMove
-  after-by v h hp h8 hc hlater h9 =
-      let y8 = h8 ∙ (λ i. patched (h i) (at (the.written 0)) (hp i)) in
-      h9 ∙ (λ i. patched (y8 i) (at the.clock) (le 8 ((hlater ∙ ap (λ (n : ℕ). (n + 1) % 2 ^ 64) hc) i)))
+-- an entry with old bytes has as many bytes as one without
+pub noted-long : (s : List ℕ) (o : Olds) → length (patched (headOf s) (at the.oldCount) (encOlds o)) ≡ imageSize
+noted-long s o = length-patched (headOf s) (encOlds o) (at the.oldCount) ∙ head-long s
 
-pub carried-by : (rom s l h en out : List ℕ) {e l2 h2 en2 x s1 s2 s3 o : List ℕ} {slot kept room sum v next : ℕ} {t : Trip} {place : Place} {none olds : Olds} {nmi : Bool}
-    → e ≡ headOf s → slot ≡ slotAt s → kept ≡ countAt s → room ≡ lengthAt s → sum ≡ sumAt s → t ≡ tripIn e
-    → v ≡ byteFrom e rom l h (t .source .bank) (t .source .addr) → place ≡ placeFor e (t .target .bank) (t .target .addr) → none ≡ noOlds
-    → olds ≡ keptAt none (banks l h) place → next ≡ follows sum (banks l h) (poked (banks l h) place v) → banks l2 h2 ≡ poked (banks l h) place v
-    → en2 ≡ writeSlot entrySize slot (patched e (at the.oldCount) (encOlds olds)) en → x ≡ afterMove e v → s1 ≡ patched s 0 x
-    → s2 ≡ counting s1 slot kept room → s3 ≡ summed s2 next → nmi ≡ nmiAt e → o ≡ answered true (nmi && not (eqb (num e the.nmi) 1)) (movedLog t v) out
-    → crossed 0 s3 l2 h2 en2 o ≡ carried rom s l h en out
-unfolding carried
-carried-by rom s l h en out he hs hk hr hu ht hv hp hn ho hf hb hen hx h1 h2 h3 hm hout =
-    let t = ht ∙ ap tripIn he in
-    let v = hv ∙ (λ i. byteFrom (he i) rom l h (t i .source .bank) (t i .source .addr)) in
-    let place = hp ∙ (λ i. placeFor (he i) (t i .target .bank) (t i .target .addr)) in
-    let olds = ho ∙ (λ i. keptAt (hn i) (banks l h) (place i)) in
-    let ram = hb ∙ (λ i. poked (banks l h) (place i) (v i)) in
-    let laid = h1 ∙ (λ i. patched s 0 ((hx ∙ (λ j. afterMove (he j) (v j))) i)) in
-    let sum = hf ∙ (λ i. follows (hu i) (banks l h) (poked (banks l h) (place i) (v i))) in
-    let counts = h2 ∙ (λ i. counting (laid i) (hs i) (hk i) (hr i)) in
-    let nmi = hm ∙ ap nmiAt he in
-    λ i.
-    crossed 0 ((h3 ∙ (λ j. summed (counts j) (sum j))) i) (ram i .low) (ram i .high)
-    ((hen ∙ (λ j. writeSlot entrySize (hs j) (patched (he j) (at the.oldCount) (encOlds (olds j))) en)) i)
-    ((hout ∙ (λ j. answered true (nmi j && not (eqb (num (he j) the.nmi) 1)) (movedLog (t j) (v j)) out)) i)
+-- and so has the image once the byte v has moved
+pub moved-long : (s : List ℕ) (v : ℕ) → length (afterMove (headOf s) v) ≡ imageSize
+unfolding afterMove
+moved-long s v =
+    let e = headOf s in
+    let r1 = patched e (at the.bank) (wmaddBytes (wmaddNext e)) in
+    let r2 = patched r1 (at the.openbus) (byte v) in
+    let r3 = patched r2 (at the.nmi) (flag (nmiAt e)) in
+    let u1 = patched r3 (at the.unit) (le 4 ((unitAt e + 1) % 2 ^ 32)) in
+    let u2 = patched u1 (at the.wait) (le 4 7) in
+    let a1t = at (the.register (busyAt e) the.a1t) in
+    let c1 = patched u2 a1t (le 2 (nextA1t (dmapAt e) (a1tAt e))) in
+    let das = at (the.register (busyAt e) the.das) in
+    let c2 = patched c1 das (le 2 (down 65536 (dasAt e))) in
+    let w1 = patched c2 (at (the.written 0)) (writtenNext e v) in
+    length-patched w1 (le 8 ((clockAt e + 1) % 2 ^ 64)) (at the.clock) ∙ length-patched c2 (writtenNext e v) (at (the.written 0))
+    ∙ length-patched c1 (le 2 (down 65536 (dasAt e))) das ∙ length-patched u2 (le 2 (nextA1t (dmapAt e) (a1tAt e))) a1t
+    ∙ length-patched u1 (le 4 7) (at the.wait) ∙ length-patched r3 (le 4 ((unitAt e + 1) % 2 ^ 32)) (at the.unit)
+    ∙ length-patched r2 (flag (nmiAt e)) (at the.nmi) ∙ length-patched r1 (byte v) (at the.openbus)
+    ∙ length-patched e (wmaddBytes (wmaddNext e)) (at the.bank) ∙ head-long s
+
+-- what a move reads of the image
+record Looked : Type 0 where
+  trip : Trip
+  byte : ℕ
+  place : Place
+  nmi : Bool
+  was : ℕ
+
+module _ (rom l h : List ℕ) where
+  abbrev looked : List ℕ → Looked
+  looked e =
+      let t = tripIn e in
+      record {
+        trip = t;
+        byte = byteFrom e rom l h (t .source .bank) (t .source .addr);
+        place = placeFor e (t .target .bank) (t .target .addr);
+        nmi = nmiAt e;
+        was = num e the.nmi;
+      }
+
+  -- where the image stands it reads the same, also where there are too few bytes
+  looked-in : (s : List ℕ) → looked (headIn s) ≡ looked (headOf s)
+  unfolding headOf byteFrom placeFor tripOf offsetOf routeOf systemRoute placeOf
+  looked-in s = go (leb imageSize (length s))
+    where
+      go : (b : Bool) → looked (pick b (take imageSize s) []) ≡ looked (pick b (take imageSize s) (replicate imageSize 0))
+      go true = refl
+      go false = refl
+
+  module _ (s : List ℕ) {e : List ℕ} {t : Trip} {v was : ℕ} {place : Place} {nmi : Bool} (he : e ≡ headIn s) (ht : t ≡ tripIn e)
+      (hv : v ≡ byteFrom e rom l h (t .source .bank) (t .source .addr)) (hp : place ≡ placeFor e (t .target .bank) (t .target .addr))
+      (hm : nmi ≡ nmiAt e) (hw : was ≡ num e the.nmi) where
+    read-so : record { trip = t; byte = v; place = place; nmi = nmi; was = was } ≡ looked (headOf s)
+    read-so =
+        (λ i.
+        record {
+          trip = ht i;
+          byte = (hv ∙ (λ j. byteFrom e rom l h (ht j .source .bank) (ht j .source .addr))) i;
+          place = (hp ∙ (λ j. placeFor e (ht j .target .bank) (ht j .target .addr))) i;
+          nmi = hm i;
+          was = hw i;
+        })
+        ∙ ap looked he ∙ looked-in s
+
+    pub carried-by : (en out : List ℕ) {l2 h2 en2 s1 s2 s3 o : List ℕ} {slot kept room sum next : ℕ} {none olds : Olds}
+        → slot ≡ slotAt s → kept ≡ countAt s → room ≡ lengthAt s → sum ≡ sumAt s → none ≡ noOlds → olds ≡ keptAt none (banks l h) place
+        → next ≡ follows sum (banks l h) (poked (banks l h) place v) → banks l2 h2 ≡ poked (banks l h) place v
+        → en2 ≡ writeSlot entrySize slot (patched (headOf s) (at the.oldCount) (encOlds olds)) en → s1 ≡ patched s 0 (afterMove (headOf s) v)
+        → s2 ≡ counting s1 slot kept room → s3 ≡ summed s2 next → o ≡ answered true (nmi && not (eqb was 1)) (movedLog t v) out
+        → crossed 0 s3 l2 h2 en2 o ≡ carried rom s l h en out
+    unfolding carried
+    carried-by en out hs hk hr hu hn ho hf hb hen h1 h2 h3 hout =
+        let x = read-so in
+        let olds = ho ∙ (λ i. keptAt (hn i) (banks l h) (x i .place)) in
+        let ram = hb ∙ (λ i. poked (banks l h) (x i .place) (x i .byte)) in
+        let sum = hf ∙ (λ i. follows (hu i) (banks l h) (poked (banks l h) (x i .place) (x i .byte))) in
+        let moved = h1 ∙ (λ i. patched s 0 (afterMove (headOf s) (x i .byte))) in
+        let counts = h2 ∙ (λ i. counting (moved i) (hs i) (hk i) (hr i)) in
+        λ i.
+        crossed 0 ((h3 ∙ (λ j. summed (counts j) (sum j))) i) (ram i .low) (ram i .high)
+        ((hen ∙ (λ j. writeSlot entrySize (hs j) (patched (headOf s) (at the.oldCount) (encOlds (olds j))) en)) i)
+        ((hout ∙ (λ j. answered true (x j .nmi && not (eqb (x j .was) 1)) (movedLog (x j .trip) (x j .byte)) out)) i)

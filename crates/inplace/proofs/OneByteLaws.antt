@@ -6,9 +6,9 @@ use mathlib.Core.Path.{_≡_, refl, sym, ap, _∙_, subst}
 use native.Mathlib.Omega.{arith}
 use borrow.Author.Tests.{leb-true, ltb-true}
 use lib.Dec.{T, eqb, leb, ltb}
-use lib.ListN.{length, getD, set, length-set}
+use lib.ListN.{length, getD, set}
 use Rattle.common.specs.{Pick.pick, Range.within, Width.Bytes}
-use Rattle.common.proofs.{RangeLaws.below-eight, TableLaws.pick-elim}
+use Rattle.common.proofs.RangeLaws.{below-eight}
 use Rattle.asbytes.specs.{Answer.answered, Crossed.crossed, Crossed.cycleCrossed}
 use Rattle.asbytes.specs.Machine.{headOf, benchOf, summed, stored, saved}
 use Rattle.asbytes.specs.Places.{slotAt, countAt, lengthAt, sumAt}
@@ -51,6 +51,7 @@ use Rattle.wram.specs.Banks.{banks, peeked, poked}
 use Rattle.wram.specs.Olds.{noOlds, keptAt}
 use Rattle.wram.specs.Sum.{follows}
 use Rattle.wram.specs.declared.Olds.{Olds}
+use Rattle.inplace.proofs.OneByteJoin.{written-long}
 use Rattle.inplace.specs.OneByte.{wmaddBytes, portByte, placeFor, byteBy, byteFrom, wmaddNext, writtenNext, afterMove, carried}
 use Rattle.inplace.specs.Rest.{at, counting, edgeAt}
 
@@ -210,8 +211,8 @@ module _ (s : List ℕ) (r : Ready s) (byteDue : Due s) (plain : Every (tripTest
   left v = movedFrom m wm v (apu v) (nmiLine (m .io)) ch next nth a1t das
 
   apu-four : (v : ℕ) → length (apu v) ≡ 4
-  unfolding machineAt ioAt
-  apu-four v = pick-elim (λ (l : List ℕ). length l ≡ 4) toApu (length-set (span 4 e (at (the.written 0))) (bsideAt e % 4) v) refl
+  unfolding writtenNext machineAt ioAt
+  apu-four v = written-long e v
 
   -- the bytes after it are the image of the machine after it
   image-is : (v : ℕ) → afterMove e v ≡ encode (left v) noOlds

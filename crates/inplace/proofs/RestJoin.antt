@@ -34,12 +34,12 @@ pub quiet-by : (out : List ℕ) (held edge : Bool) {a b : List ℕ} → a ≡ pa
 unfolding answered
 quiet-by out held edge p q = q ∙ (λ i. patched (p i) accessesPlace (replicate 55 0))
 
-pub rested-by : (s en out : List ℕ) {slot kept room wait clock was : ℕ} {nmi : Bool} {e a b c d : List ℕ} → e ≡ headOf s → slot ≡ slotAt s
+pub rested-by : (s en out : List ℕ) {slot kept room wait clock was : ℕ} {nmi : Bool} {a b c d : List ℕ} → slot ≡ slotAt s
     → kept ≡ countAt s → room ≡ lengthAt s → wait ≡ waitAt s → clock ≡ clockAt s → nmi ≡ nmiAt s → was ≡ num s the.nmi
-    → a ≡ writeSlot entrySize slot e en → b ≡ ticking s nmi wait clock → c ≡ counting b slot kept room
+    → a ≡ writeSlot entrySize slot (headOf s) en → b ≡ ticking s nmi wait clock → c ≡ counting b slot kept room
     → d ≡ answered (ltb 0 wait) (nmi && not (eqb was 1)) noLog out → crossed 0 c [] [] a d ≡ rested s [] [] en out
 unfolding rested
-rested-by s en out x p q r t u v o w y z k =
+rested-by s en out p q r t u v o w y z k =
     λ i.
     crossed 0 ((z ∙ (λ j. counting ((y ∙ (λ n. ticking s (v n) (t n) (u n))) j) (p j) (q j) (r j))) i) [] []
-    ((w ∙ (λ j. writeSlot entrySize (p j) (x j) en)) i) ((k ∙ (λ j. answered (ltb 0 (t j)) (v j && not (eqb (o j) 1)) noLog out)) i)
+    ((w ∙ (λ j. writeSlot entrySize (p j) (headOf s) en)) i) ((k ∙ (λ j. answered (ltb 0 (t j)) (v j && not (eqb (o j) 1)) noLog out)) i)

@@ -65,16 +65,16 @@ module _ (e : List ℕ) where
       pick (not (flagOf (dmapAt e) 0x80) && leb 0x2140 (bsideAt e) && ltb (bsideAt e) 0x2180) (set old (bsideAt e % 4) v) old
 
   -- WMADD, open bus and NMI line, laid over the image
-  abbrev pub afterRegisters : ℕ → List ℕ
+  abbrev afterRegisters : ℕ → List ℕ
   afterRegisters v =
       patched (patched (patched e (at the.bank) (wmaddBytes wmaddNext)) (at the.openbus) (byte v)) (at the.nmi) (flag (nmiAt e))
 
   -- progress and wait, laid over x
-  abbrev pub afterUnit : List ℕ → List ℕ
+  abbrev afterUnit : List ℕ → List ℕ
   afterUnit x = patched (patched x (at the.unit) (le 4 ((unitAt e + 1) % 2 ^ 32))) (at the.wait) (le 4 7)
 
   -- the channel's A1T and DAS
-  abbrev pub afterChannel : List ℕ → List ℕ
+  abbrev afterChannel : List ℕ → List ℕ
   afterChannel x =
       patched (patched x (at (the.register (busyAt e) the.a1t)) (le 2 (nextA1t (dmapAt e) (a1tAt e)))) (at (the.register (busyAt e) the.das)) (le 2 (down 65536 (dasAt e)))
 

@@ -4,22 +4,25 @@ ghost use mathlib.Core.List.{[]};
 ghost use denote.Ref.{now};
 ghost use Rattle.asbytes.specs.Answer.{answered};
 ghost use Rattle.asbytes.specs.Crossed.{crossed};
+ghost use Rattle.asbytes.specs.Machine.{headOf};
 ghost use Rattle.bus.specs.Access.{noLog};
+ghost use Rattle.entry.specs.Slot.{writeSlot};
+ghost use Rattle.layout.specs.Layout.{entrySize};
 ghost use Rattle.inplace.specs.Rest.{ticking, counting, rested};
 use asbytes::ACCESSES;
 use asbytes::ACCESSES_SIZE;
-use asbytes::bytes::head_bytes;
 use asbytes::bytes::kept_at;
 use asbytes::bytes::length_at;
 use asbytes::bytes::put_counts;
 use asbytes::bytes::put_eight;
+use asbytes::bytes::put_head;
 use asbytes::bytes::slot_at;
 use common::less::less_one;
-use entry::put_slot;
 use fields::four_bytes;
 use fields::put;
 use fields::word::byte;
 use layout::CLOCK;
+use layout::ENTRY_SIZE;
 use layout::NMI;
 use layout::WAIT;
 use layout::capacity;
@@ -60,10 +63,19 @@ fn put_quiet(out: &mut [u8], held: bool, edge: bool)
     put(out, ACCESSES, &none);
 }
 
+// The entry is the image as it stands, straight into its slot.
+fn copy_image(entries: &mut [u8], slot: usize, s: &[u8])
+    ensures { λ _. ⌜ now (entries .exit) ≡ writeSlot entrySize slot (headOf (now (s .entry))) (now (entries .entry)) ⌝ }
+{
+    if slot < capacity(entries.len()) {
+        let at = slot * ENTRY_SIZE;
+        put_head(&mut entries[at..], s);
+    }
+}
+
 pub fn rest(machine: &mut [u8], entries: &mut [u8], out: &mut [u8])
     ensures { λ _. ⌜ crossed 0 (now (machine .exit)) [] [] (now (entries .exit)) (now (out .exit)) ≡ rested (now (machine .entry)) [] [] (now (entries .entry)) (now (out .entry)) ⌝ }
 {
-    let e = head_bytes(machine);
     let slot = slot_at(machine);
     let kept = kept_at(machine);
     let length = length_at(machine);
@@ -71,7 +83,7 @@ pub fn rest(machine: &mut [u8], entries: &mut [u8], out: &mut [u8])
     let clock = clock_at(machine);
     let nmi = nmi_at(machine);
     let was = byte(machine, NMI);
-    put_slot(entries, slot, e);
+    copy_image(entries, slot, machine);
     tick(machine, nmi, wait, clock);
     count(machine, slot, kept, length);
     put_quiet(out, 0 < wait, nmi & !(was == 1));

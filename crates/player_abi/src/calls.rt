@@ -96,8 +96,7 @@ pub extern "C" fn cloverwain_read(
 {
     let b = bench_of(machine);
     let r = bench::operate::read(b, low, high, entries, rom, bank, addr);
-    let after = r.bench;
-    save(machine, r.number, after);
+    save(machine, r.number, r.bench);
     let bytes = [r.byte, r.cost];
     put(out, 0, &bytes);
     r.number
@@ -120,8 +119,7 @@ pub extern "C" fn cloverwain_write(
 {
     let b = bench_of(machine);
     let r = bench::operate::write(b, low, high, entries, rom, bank, addr, byte);
-    let after = r.bench;
-    save(machine, r.number, after);
+    save(machine, r.number, r.bench);
     let bytes = [r.cost];
     put(out, 0, &bytes);
     r.number
@@ -142,8 +140,7 @@ pub extern "C" fn cloverwain_pad(
 {
     let b = bench_of(machine);
     let r = bench::operate::pad(b, low, high, entries, rom, port, word);
-    let after = r.bench;
-    save(machine, r.number, after);
+    save(machine, r.number, r.bench);
     r.number
 }
 
@@ -162,8 +159,7 @@ pub extern "C" fn cloverwain_plug(
 {
     let b = bench_of(machine);
     let r = bench::operate::plug(b, low, high, entries, rom, port, on);
-    let after = r.bench;
-    save(machine, r.number, after);
+    save(machine, r.number, r.bench);
     r.number
 }
 
@@ -182,8 +178,7 @@ pub extern "C" fn cloverwain_port_answer(
 {
     let b = bench_of(machine);
     let r = bench::operate::port_answer(b, low, high, entries, rom, addr, byte);
-    let after = r.bench;
-    save(machine, r.number, after);
+    save(machine, r.number, r.bench);
     r.number
 }
 
@@ -199,8 +194,7 @@ pub extern "C" fn cloverwain_back(
 {
     let b = bench_of(machine);
     let r = bench::back::back(b, low, high, entries);
-    let after = r.bench;
-    save(machine, r.number, after);
+    save(machine, r.number, r.bench);
     r.number
 }
 

@@ -1,4 +1,5 @@
-//! What was compared: calls by their number, those with a false sum, and reads of ROMs by length.
+//! What was compared: calls by their number, those with a false sum, those that wrote over random bytes, and reads of
+//! ROMs by length.
 
 use crate::roms::{self, LENGTHS};
 use std::collections::BTreeMap;
@@ -9,6 +10,8 @@ pub struct Counts {
     calls: BTreeMap<(&'static str, u8), u64>,
     /// Calls whose machine came with a false sum.
     false_sums: u64,
+    /// Accepted calls whose slot was filled with random bytes before.
+    over_random: u64,
     /// By length; all lengths that are not drawn stand together under none.
     roms: BTreeMap<Option<usize>, Rom>,
 }
@@ -29,6 +32,10 @@ impl Counts {
 
     pub fn false_sum(&mut self) {
         self.false_sums += 1;
+    }
+
+    pub fn over_random(&mut self) {
+        self.over_random += 1;
     }
 
     pub fn total(&self) -> u64 {
@@ -60,6 +67,7 @@ impl fmt::Display for Counts {
             writeln!(out, "{call} {number}: {count}")?;
         }
         writeln!(out, "with a false sum: {} calls", self.false_sums)?;
+        writeln!(out, "over random bytes: {} calls", self.over_random)?;
         for (length, Rom { runs, within, past }) in &self.roms {
             let length = length.map_or("other".into(), |length| length.to_string());
             writeln!(

@@ -29,6 +29,8 @@ pub struct Pair<'a> {
     entries: Vec<u8>,
     /// Lengths that the next call is lent: both banks and the record.
     lengths: [usize; 3],
+    /// What slots are filled with. It is a stream of its own, so that the run's calls do not depend on it.
+    fill: Random,
     /// How much was added to the machine's sum to make it false, modulo 2^32.
     false_by: u32,
     calls: u64,
@@ -38,11 +40,12 @@ impl<'a> Pair<'a> {
     /// Both fresh, after some fresh calls that are mostly refused.
     pub fn fresh(
         random: &mut Random,
+        fill: Random,
         rows: &Rows,
         roms: &'a Roms,
         counts: &mut Counts,
     ) -> Result<Self, String> {
-        let mut pair = Self::lent(random, rows, roms);
+        let mut pair = Self::lent(random, fill, rows, roms);
         (0..2).try_for_each(|_| pair.any_fresh(random, counts))?;
         let length = pair.record.len();
         // The file's own bit cycles may be refused.
@@ -53,7 +56,7 @@ impl<'a> Pair<'a> {
     }
 
     /// All that is lent, with any bytes where fresh will put the machine.
-    fn lent(random: &mut Random, rows: &Rows, roms: &'a Roms) -> Self {
+    fn lent(random: &mut Random, fill: Random, rows: &Rows, roms: &'a Roms) -> Self {
         let banks = Banks::filled(&rows.fill);
         let halves = [0, 1].map(|half| {
             banks.bytes()[half * BANK_SIZE..][..BANK_SIZE]
@@ -77,6 +80,7 @@ impl<'a> Pair<'a> {
             halves,
             entries,
             lengths,
+            fill,
             false_by: 0,
             calls: 0,
         }
@@ -125,6 +129,7 @@ impl<'a> Pair<'a> {
 
     /// One call on both, and everything compared.
     pub fn call(&mut self, row: Row, counts: &mut Counts) -> Result<(), String> {
+        let filled = self.fill_slot(row);
         let (theirs, ours) = (self.oracle(row), self.library(row));
         self.compared(&ours, &theirs)
             .map_err(|what| format!("{row:?} with a ROM of {} bytes: {what}", self.rom.len()))?;
@@ -132,10 +137,36 @@ impl<'a> Pair<'a> {
         if self.false_by != 0 {
             counts.false_sum();
         }
+        if filled && ours.number == 0 {
+            counts.over_random();
+        }
         for (bank, addr) in ours.reads(row) {
             counts.read(self.rom.len(), bank, addr);
         }
         Ok(())
+    }
+
+    /// Random bytes where an operation writes its entry, so that a byte which it leaves out shows: always where no entry
+    /// is kept, now and then over the oldest one. Answers whether they were put there.
+    fn fill_slot(&mut self, row: Row) -> bool {
+        let capacity = (self.record_length() / ENTRY_SIZE) as u64;
+        let (slot, kept) = (self.machine.next_slot, self.machine.kept);
+        if matches!(row, Row::Back { .. })
+            || slot >= capacity
+            || (kept >= capacity && !self.fill.once_in(8))
+        {
+            return false;
+        }
+        let bytes = self.fill.bytes(ENTRY_SIZE);
+        for record in [&mut self.record, &mut self.entries] {
+            record[slot as usize * ENTRY_SIZE..][..ENTRY_SIZE].copy_from_slice(&bytes);
+        }
+        true
+    }
+
+    /// How much of the record the next call is lent.
+    fn record_length(&self) -> usize {
+        self.lengths[2].min(self.record.len())
     }
 
     fn compared(&mut self, ours: &Answer, theirs: &Answer) -> Result<(), String> {
@@ -199,7 +230,7 @@ impl<'a> Pair<'a> {
 
     fn oracle(&mut self, row: Row) -> Answer {
         self.banks.lengths = [self.lengths[0], self.lengths[1]];
-        let length = self.lengths[2].min(self.record.len());
+        let length = self.record_length();
         let (machine, banks, record) = (
             &mut self.machine,
             &mut self.banks,
@@ -239,8 +270,8 @@ impl<'a> Pair<'a> {
 
     fn library(&mut self, row: Row) -> Answer {
         let mut answer = Answer::default();
+        let length = self.record_length();
         let [low, high] = &mut self.halves;
-        let length = self.lengths[2].min(self.entries.len());
         let lent = raw::Lent {
             machine: &mut self.bytes,
             low: &mut low[..self.lengths[0]],

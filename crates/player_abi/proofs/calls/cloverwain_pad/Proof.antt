@@ -4,7 +4,7 @@ use borrow.Author.Needs.{needs}
 use Rattle.player_abi.proofs.calls.cloverwain_pad.Tie as tie
 
 returns : tie.Need-returns
-returns c = pad-by _ _ _ _ _ (c .before .before .before .before .before .before .before .before .before .before .before .before .before .before .before .bench-of .ensures) _ _ (c .before .before .before .before .before .before .before .before .before .before .before .pad .ensures) (left-by _ _ _ _ (c .before .before .save .ensures) refl)
+returns c = pad-by _ _ _ _ _ (c .before .before .before .before .before .before .before .before .before .before .before .before .before .before .bench-of .ensures) _ _ (c .before .before .before .before .before .before .before .before .before .before .pad .ensures) (left-by _ _ _ _ (c .before .before .save .ensures) refl)
 
 pub cloverwain-pad-spec : {M : Type 1} → statement M
 cloverwain-pad-spec =

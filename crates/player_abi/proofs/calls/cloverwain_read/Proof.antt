@@ -6,10 +6,10 @@ returns : tie.Need-returns
 returns c =
     let at2 = c .before .before in
     let at7 = at2 .before .before .before .before .before in
-    let at16 = at7 .before .before .before .before .before .before .before .before .before in
-    let at20 = at16 .before .before .before .before in
-    let at28 = at20 .before .before .before .before .before .before .before .before in
-    read-by _ _ _ _ _ (at20 .bench-of .ensures) _ _ (at28 .args .out .now) (at16 .read .ensures) (left-by _ _ _ _ (at7 .save .ensures) (at2 .put .ensures))
+    let at15 = at7 .before .before .before .before .before .before .before .before in
+    let at19 = at15 .before .before .before .before in
+    let at27 = at19 .before .before .before .before .before .before .before .before in
+    read-by _ _ _ _ _ (at19 .bench-of .ensures) _ _ (at27 .args .out .now) (at15 .read .ensures) (left-by _ _ _ _ (at7 .save .ensures) (at2 .put .ensures))
 
 pub cloverwain-read-spec : {M : Type 1} → statement M
 cloverwain-read-spec =

@@ -1,24 +1,12 @@
-use mathlib.Core.Path.{refl, _∙_}
+use mathlib.Core.Path.{refl, ap, _∙_}
 use native.Mathlib.Omega.{arith}
 use borrow.Author.Needs.{needs}
 use borrow.Author.Tests.{lt-leb}
-use Rattle.fields.proofs.Patch.{nothing, on, patch-is}
+use lib.ListN.{length}
+use Rattle.fields.proofs.Patch.{nothing, on, patch-is, length-patched}
 use Rattle.image.specs.Encode.{encChannels, encode}
 use Rattle.image.proofs.put_fields.Statement.{statement}
 use Rattle.image.proofs.put_fields.Tie as tie
-
-same-length : tie.Need-same-length
-same-length c =
-    let tail = c .before .before in
-    let olds = tail .before .before .before .before .before .before in
-    let clock = olds .before .before .before .before .before .before in
-    let answers = clock .before .before .before .before .before .before in
-    let channels = answers .before .before .before .before .before .before in
-    let lines = channels .before .before .before .before .before .before in
-    let dma = lines .before .before .before .before .before .before in
-    let pads = dma .before .before .before .before .before .before in
-    let registers = pads .before .before .before .before .before .before in
-    tail .put8 .kept .0 ∙ olds .put7 .kept .0 ∙ clock .put6 .kept .0 ∙ answers .put5 .kept .0 ∙ channels .put-channels .kept .0 ∙ lines .put4 .kept .0 ∙ dma .put3 .kept .0 ∙ pads .put2 .kept .0 ∙ registers .put .kept .0
 
 returns : tie.Need-returns
 unfolding encode
@@ -45,6 +33,11 @@ returns c =
     let w8 = on w7 (olds .put7 .ensures) (olds .before .before .before .olds-bytes .ensures) refl (omega (arith, room)) in
     let w9 = on w8 (tail .put8 .ensures) (tail .before .before .before .tail-bytes .ensures) refl (omega (arith, room)) in
     patch-is w9 (omega (arith, room))
+
+same-length : tie.Need-same-length
+same-length c =
+    let a = c .before .before .before .before .before .before .before .before .before .before .before .before .before .before .before .before .before .before .before .before .before .before .before .before .before .before .before .before .before .before .before .before .before .before .before .before .before .before .before .before .before .before .before .before .before .before .before .before .before .before .before .before .before .before .before .before .args in
+    ap length (returns c) ∙ length-patched (a .part .now) (encode (a .m) (a .o)) 0
 
 returns-2 : tie.Need-returns-2
 unfolding encode

@@ -2,10 +2,10 @@ use Prim.Native.Nat.{ℕ, _+_, _%_, _^_}
 use mathlib.Core.Path.{refl, ap, _∙_}
 use native.Mathlib.Omega.{arith}
 use borrow.Author.Needs.{needs}
-use lib.ListN.{take}
+use lib.ListN.{length, take}
 use Rattle.asbytes.proofs.Head.{head-take}
 use Rattle.asbytes.specs.Machine.{headOf}
-use Rattle.fields.proofs.{Front.front, Front.within, Front.front-over, Patch.no-room}
+use Rattle.fields.proofs.{Front.front, Front.within, Front.front-over, Patch.length-patched, Patch.no-room}
 use Rattle.fields.specs.Little.{le}
 use Rattle.image.specs.Groups.{byte, flag}
 use Rattle.inplace.proofs.{OneByteJoin.in-image, OneByteJoin.a1t-by, OneByteJoin.das-by, OneByteJoin.written-long, OneByteJoin.moved-long, onebyte.move_on.Statement.statement}
@@ -31,19 +31,6 @@ slice-aggregate-put-8 : tie.Need-slice-aggregate-put-8
 slice-aggregate-put-8 c =
     let at-written-next = c .before .before .before .before .before .before .before .before .before .before .before .before .before .before .before .before .before .before .before .before .before .before .before .before .before .before .before .before .before .before .before .before .before .before .before .before .before .before .before .before .before .before in
     search (needs, at-written-next .written-next)
-
-same-length : tie.Need-same-length
-same-length c =
-    let at-put-eight = c .before .before in
-    let at-put8 = at-put-eight .before .before .before .before in
-    let at-put7 = at-put8 .before .before .before .before .before in
-    let at-put6 = at-put7 .before .before .before .before .before .before in
-    let at-put5 = at-put6 .before .before .before .before .before .before in
-    let at-put4 = at-put5 .before .before .before .before .before .before in
-    let at-put3 = at-put4 .before .before .before .before .before .before in
-    let at-put2 = at-put3 .before .before .before .before .before in
-    let at-put = at-put2 .before .before .before .before .before in
-    at-put-eight .put-eight .kept .0 ∙ at-put8 .put8 .kept .0 ∙ at-put7 .put7 .kept .0 ∙ at-put6 .put6 .kept .0 ∙ at-put5 .put5 .kept .0 ∙ at-put4 .put4 .kept .0 ∙ at-put3 .put3 .kept .0 ∙ at-put2 .put2 .kept .0 ∙ at-put .put .kept .0
 
 returns : tie.Need-returns
 unfolding afterMove
@@ -95,6 +82,11 @@ returns c =
     let f8 = within {k = at (the.written 0)} f7 (at-put8 .put8 .ensures) refl (at-written-next .written-next .ensures) (omega (arith, written-long (take imageSize s) (start .args .moved))) in
     let f9 = within {k = at the.clock} f8 (at-put-eight .put-eight .ensures) refl (ap (le 8) clock) (omega arith) in
     rw (head-take s room) (front-over imageSize s room f9)
+
+same-length : tie.Need-same-length
+same-length c =
+    let a = c .before .before .before .before .before .before .before .before .before .before .before .before .before .before .before .before .before .before .before .before .before .before .before .before .before .before .before .before .before .before .before .before .before .before .before .before .before .before .before .before .before .before .before .before .before .before .before .before .before .before .before .before .before .before .before .before .before .before .before .before .before .before .before .before .before .before .args in
+    ap length (returns c) ∙ length-patched (a .s .now) (afterMove (headOf (a .s .now)) (a .moved)) 0
 
 returns-2 : tie.Need-returns-2
 returns-2 c =

@@ -1,4 +1,5 @@
-"""A program of this repository beside the oracle, for `compare`, `moves` and `sums`: how both run, and how a differing file is made small.
+"""A program of this repository beside the oracle, for `compare`, `moves`, `sums` and `figures`: how both run, and how a differing file is
+made small.
 
 Programs are target/bin/NAME (`rt check NAME` makes one), the oracle is target/release/oracle (`cargo build --release` in this folder).
 """
@@ -25,11 +26,11 @@ def program(name):
     return [tools / "bin/qemu-x86_64", tools / "lib/ld-linux-x86-64.so.2", "--library-path", tools / "lib", PROGRAMS / name]
 
 
-def run(command, data=b""):
-    return subprocess.run([str(word) for word in command], input=data, capture_output=True, check=False)
+def run(command, data=b"", folder=None):
+    return subprocess.run([str(word) for word in command], input=data, capture_output=True, check=False, cwd=folder)
 
 
-def without(data, start, count):
+def without_rows(data, start, count):
     """The file without some of its script rows; None where its contents cannot be read."""
     if len(data) < 32:
         return None
@@ -41,17 +42,18 @@ def without(data, start, count):
     return data[:24] + struct.pack("<II", at, len(rows)) + data[32:at] + rows
 
 
-def smaller(data, differ):
-    step = max(1, (len(data) - 32) // 16)
+def smaller(whole, differ, without=without_rows):
+    """A file with fewer rows, or a list of files with fewer files, that still differs."""
+    step = max(1, len(whole) // 2)
     while step:
         start = 0
-        while (shorter := without(data, start, step)) is not None and len(shorter) < len(data):
+        while (shorter := without(whole, start, step)) is not None and len(shorter) < len(whole):
             if differ(shorter):
-                data = shorter
+                whole = shorter
             else:
                 start += step
         step //= 2
-    return data
+    return whole
 
 
 def saved(data, differ, name):

@@ -1,13 +1,14 @@
 #!/usr/bin/env -S python3 -B
-"""The tries of the program refusals, and the lines expected of it, from document 01's table with document 02's request 2 (the sum).
+"""The tries of the program refusals, and the lines expected of it, from document 01's table with document 02's requests 2 (the sum) and 4
+(what channels moved: numbers 13 and 14).
 
 Nothing here looks at the program or its output.
 
     python3 oracle/refusals.py list > crates/refusals/stdin
     python3 oracle/refusals.py > crates/refusals/stdout
 
-A try is a kind (0 a listed call as docs/CALLS.md has it, 1 fresh, 2 page look, 3 file check, 4 section look), its words, what is given, and
-the end of its line.
+A try is a kind (0 a listed call as docs/CALLS.md has it, 1 fresh, 2 page look, 3 file check, 4 section look, 5 count, 6 add), its words,
+what is given, and the end of its line.
 """
 import sys
 
@@ -289,8 +290,61 @@ def files():
                 yield 4, f"section look, section {section}", given + bytes([section]), end
 
 
+# which total is not 7, and what it is; a share: channel, general bytes, units, table bytes, number of the DMA state, held
+COUNTS = ([(place, total, channel, 1, 1, 1, state, 1) for channel, state in [(0, 0), (7, 3)]
+           for place in (channel, 8 + channel, 16 + channel, 24 + state, 28) for total in (M - 2, M - 1)]
+          + [(0, M - 5, 0, 4, 0, 0, 2, 1), (0, M - 4, 0, 4, 0, 0, 2, 1), (23, M - 5, 7, 0, 1, 4, 3, 1), (23, M - 4, 7, 0, 1, 4, 3, 1)]
+          + [(7, 0, 7, M - 1, 0, 0, 2, 1), (7, 1, 7, M - 1, 0, 0, 2, 1)]
+          # full totals that the share leaves alone: of another channel, of another state, of a figure that it has none of
+          + [(1, M - 1, 0, 1, 1, 1, 0, 1), (25, M - 1, 0, 1, 1, 1, 0, 1), (28, M - 1, 0, 1, 1, 1, 0, 0), (8, M - 1, 0, 0, 0, 0, 0, 0)])
+
+
+def told(what, before, after):
+    """The figures that changed, with their places."""
+    return "".join(f", {what} {place} is {new}" for place, (old, new) in enumerate(zip(before, after)) if old != new)
+
+
+def counts():
+    """Places: general bytes, units and table bytes of channels 0 to 7, held by state, held at all. A total over 2^64 - 1 is 13."""
+    for place, total, channel, general, units, table, state, held in COUNTS:
+        before = [7] * 29
+        before[place] = total
+        share = {channel: general, 8 + channel: units, 16 + channel: table, 24 + state: held, 28: held}
+        after = [old + share.get(i, 0) for i, old in enumerate(before)]
+        n = 13 if max(after) >= M else 0
+        words = (f"count, total {place} of {total}, channel {channel}, general bytes {general}, units {units}, table bytes {table}, "
+                 f"state {state}, held {held}")
+        given = b"".join(little(x, 8) for x in (total, general, units, table, held)) + bytes([place, channel, state])
+        said = "" if n else told("total", before, after)
+        yield 5, words, given, f"{said}: {n}, {'changed' if said else 'all as it was'}\n"
+
+
+# how many files there are; the column and the place of a figure; what the first file has there, and what the file added has
+ADDS = ([(2, column, place, M - 6, figure) for column in ("all", "survivors") for place in (0, 28) for figure in (5, 6)]
+        + [(2, "all", 7, 3, M - 4), (2, "all", 7, 4, M - 4), (2, "survivors", 16, 3, M - 4), (2, "survivors", 16, 4, M - 4)]
+        + [(3, "all", 24, 5, 4), (3, "all", 24, 5, 5), (3, "all", 24, 5, 6), (3, "all", 28, M - 1, 0), (3, "all", 28, M - 1, 1)]
+        + [(files, "all", 28, 2, 3) for files in (254, 255, 256, 257, M - 1)]
+        # both numbers at their limits
+        + [(files, column, 28, M - 1, figure) for files in (255, 256) for column in ("all", "survivors") for figure in (0, 1)])
+
+
+def adds():
+    """A total over 2^64 - 1 is 13, then a file after the 256th 14. Of two files with the largest figure the first has it."""
+    for files, column, place, first, figure in ADDS:
+        n = 13 if first + figure >= M else 14 if files >= 256 else 0
+        said = ""
+        if n == 0:
+            figures = [first] + [0] * (files - 1) + [figure]
+            largest = max(figures)
+            now = [("total", first, sum(figures)), ("largest", first, largest), ("file", 1, figures.index(largest) + 1)]
+            said = f", files {files + 1}" + "".join(f", {column} {what} {place} is {new}" for what, old, new in now if old != new)
+        words = f"add, {files} files, {column} total {place} of {first}, figure {figure}"
+        given = little(files, 8) + little(first, 8) + little(figure, 8) + bytes([column == "survivors", place])
+        yield 6, words, given, said + ended(n)
+
+
 def main():
-    tries = [*fresh(), *operations(), *entries(), *pages(), *files()]
+    tries = [*fresh(), *operations(), *entries(), *pages(), *files(), *counts(), *adds()]
     if sys.argv[1:] == ["list"]:
         for kind, words, given, _ in tries:
             sys.stdout.buffer.write(bytes([kind, len(words)]) + words.encode() + (given if kind == 0 else given.ljust(50, b"\0")))

@@ -1,8 +1,9 @@
-// What a program is given: its input, read to its end, and the place that its argument names; and what is wrong with them.
+// What a program is given: its input, read to its end, the files and the place that its arguments name; and what is wrong with them.
 pub mod complaint;
 
 use complaint::no_place;
 use complaint::unread;
+use complaint::unread_file;
 use dump::place::place;
 use fields::part::part;
 use libc::ENAMETOOLONG;
@@ -40,9 +41,24 @@ pub fn read_bench(name: &[u8], buf: &mut [u8]) -> Got {
     got
 }
 
-// The length of the first argument; of a long one the buffer has the start.
-fn argument(buf: &mut [u8]) -> usize {
-    let n = os::arg(1, buf);
+// The bench file of a name, likewise. A name of 4,096 bytes or more names no file.
+pub fn read_named(name: &[u8], file: &[u8], buf: &mut [u8]) -> Got {
+    let fd = os::open_read(file);
+    if fd < 0 {
+        unread_file(name, file);
+        return Got { n: 0, ok: false };
+    }
+    let got = read_all(fd, buf);
+    if !got.ok {
+        unread_file(name, file);
+    }
+    libc::close(fd);
+    got
+}
+
+// The length of an argument; of a long one the buffer has the start.
+pub fn argument(i: usize, buf: &mut [u8]) -> usize {
+    let n = os::arg(i, buf);
     if os::errno() == ENAMETOOLONG {
         return buf.len();
     }
@@ -52,7 +68,7 @@ fn argument(buf: &mut [u8]) -> usize {
 // The place in work RAM that the first argument names; 131,072 where it names none.
 pub fn place_given(name: &[u8]) -> u32 {
     let mut buf = [0u8; 64];
-    let n = argument(&mut buf);
+    let n = argument(1, &mut buf);
     let word = part(&buf, 0, n);
     let at = place(word);
     if at > 131071 {

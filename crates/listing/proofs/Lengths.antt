@@ -122,6 +122,8 @@ words-most n =
     also omega arith
     also omega arith
     also omega arith
+    also omega arith
+    also omega arith
     also tt)
     (omega arith)
 

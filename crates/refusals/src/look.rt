@@ -1,7 +1,7 @@
 // Fresh and page look, tried.
 use crate::say::say;
 use crate::say::say_last;
-use crate::say::say_number;
+use crate::say::say_named;
 use bench::fresh::fresh;
 use bench::operate::Answer;
 use bench::page::page_look;
@@ -25,10 +25,6 @@ pub fn fresh_tried(given: &[u8]) -> bool {
         two(given, 12),
     );
     say_fresh(a)
-}
-
-fn say_named(name: &[u8], n: usize) -> bool {
-    say(name) & say_number(n as u64)
 }
 
 fn say_fresh(a: Answer) -> bool {

@@ -1,9 +1,12 @@
-// Makes the tries on standard input (docs/REFUSALS.md) and says of each the number got, and whether the machine and every byte lent stayed
-// as they were. A try is its kind and the length of its words; the words, which begin its line; then what is given.
+// Makes the tries on standard input (docs/REFUSALS.md) and says of each the number got, and whether the machine and every byte lent, or the
+// figures, stayed as they were. A try is its kind and the length of its words; the words, which begin its line; then what is given.
+mod figures;
 mod file;
 mod look;
 mod say;
 
+use crate::figures::add_tried;
+use crate::figures::count_tried;
 use crate::file::file_tried;
 use crate::file::section_tried;
 use crate::look::fresh_tried;
@@ -33,7 +36,9 @@ fn other_tried(kind: u8) -> bool {
         1 => fresh_tried(&given),
         2 => page_tried(&given),
         3 => file_tried(&given),
-        _ => section_tried(&given),
+        4 => section_tried(&given),
+        5 => count_tried(&given),
+        _ => add_tried(&given),
     }
 }
 

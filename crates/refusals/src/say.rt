@@ -9,6 +9,10 @@ pub fn say_number(n: u64) -> bool {
     io::print_decimal(STDOUT_FILENO, n)
 }
 
+pub fn say_named(name: &[u8], n: usize) -> bool {
+    say(name) & say_number(n as u64)
+}
+
 // The end of a line: the number got.
 pub fn say_last(number: u8) -> bool {
     say(b": ") & say_number(number as u64) & say(b"\n")

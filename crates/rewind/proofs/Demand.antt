@@ -1,7 +1,7 @@
 -- Demand 3: any run from fresh is as promised.
 use Prim.Native.Nat.{ℕ}
 use mathlib.Core.List.{List, []}
-use mathlib.Core.Path.{refl}
+use mathlib.Core.Path.{refl, _∙_}
 use native.Mathlib.Omega.{arith}
 use Rattle.bench.specs.Calls.{Desk, desk, emptyBench}
 use Rattle.machine.proofs.{FitLaws.power-on-fits, Ranges.power-on-ok}
@@ -42,4 +42,4 @@ demand3 rom low high entries len bitcycles L accepted cs t =
     let F = fresh-facts low high len bitcycles accepted in
     rw (F .power-on)
     (promised rom (L .rom-bytes) (L .rom-most) len (F .some) (F .whole) (first low high entries len bitcycles) refl refl refl
-    (begin rom low high entries len bitcycles L F) cs t)
+    (λ other h. begin rom low high other len bitcycles (record { rom-bytes = L .rom-bytes; rom-most = L .rom-most; low-bytes = L .low-bytes; high-bytes = L .high-bytes; entries-length = h ∙ L .entries-length }) F) cs t)

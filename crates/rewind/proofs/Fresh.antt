@@ -47,7 +47,7 @@ module _ (low high : List ℕ) (len bitcycles : ℕ) where
   abbrev refused : ℕ
   refused = freshNumber (length low) (length high) len bitcycles
 
-  fresh-number : freshCall low high len bitcycles .number ≡ refused
+  pub fresh-number : freshCall low high len bitcycles .number ≡ refused
   unfolding freshCall
   fresh-number =
       pick-case (λ (r : Answer). r .number ≡ refused) (eqb refused 0) (λ e. sym (eqb-true refused 0 e)) (λ e. refl)

@@ -20,20 +20,16 @@ use Rattle.ranges.proofs.MachineLaws.{passes}
 use Rattle.rewind.proofs.Calls.{numberOf, reply, SoundDesk, lent-sound, op-keeps, op-called, back-none, back-some, op-sound, back-sound}
 use Rattle.rewind.proofs.Good.{Good, lawful}
 use Rattle.rewind.proofs.Slots.{before-lt, before-after, Behind, behind-step, behind-ne, behind-cap}
-use Rattle.rewind.specs.History.{rest, survive, survivorsFrom, survivors, Placed, Shelf, without, keep, keepFrom, keptOps}
-use Rattle.rewind.specs.Promise.{Sound, Rewound}
+use Rattle.rewind.specs.History.{Deed, did, rest, survive, survivorsFrom, survivors, Placed, Shelf, without, keep, keepFrom, keptOps}
+use Rattle.rewind.specs.Promise.{onRecord, Sound, Rewound}
 use Rattle.rewind.specs.Rules.{Op, Typed, State, Done, obeyed, obeyedAll}
-use Rattle.rewind.specs.Run.{Call, operation, back, TypedCall, Reply, called, deed, run, deeds, stateOf}
+use Rattle.rewind.specs.Run.{Call, operation, back, TypedCall, Reply, called, Met, deed, deedAt, run, deeds, deedsAt, stateOf}
 use Rattle.wram.proofs.SumLaws.{follow-true}
 use Rattle.wram.specs.{Olds.putBack, Sum.follows}
 
--- an accepted operation, and the state that it met
-pub record Past : Type 0 where
-  pub op : Op
-  pub was : State
-
+-- the accepted operations, the latest first, and the states that they met
 abbrev pub Trace : Type 0
-Trace = List Past
+Trace = List Met
 
 abbrev pub ops : Trace → List Op
 ops [] = []
@@ -49,7 +45,7 @@ module _ (rom : List ℕ) (bytes : Bytes rom) (small : length rom ≤ 4194304) (
   Trail s₀ (p ∷ ps) s = Good (p .was) × Typed (p .op) × (numberOf (p .op) (p .was .machine) ≡ 0) × (obeyed rom (p .op) (p .was) .state ≡ s) × Trail s₀ ps (p .was)
 
   -- the entry of an accepted operation
-  abbrev pub entryOf : Past → Decoded
+  abbrev pub entryOf : Met → Decoded
   entryOf p = record { ok = true; machine = p .was .machine; olds = obeyed rom (p .op) (p .was) .olds }
 
   -- the entries of the latest k operations stand in the k slots before slot n
@@ -142,11 +138,12 @@ module _ (rom : List ℕ) (bytes : Bytes rom) (small : length rom ≤ 4194304) (
     trace : Trace
     inv : Inv s₀ (r .desk) trace
     live : survive (deed c (r .number)) (ops ps) ≡ ops trace
+    met : survive (deedAt c d (r .number)) ps ≡ trace
     kept : keep cap (deed c (r .number)) (shelf d ps) ≡ shelf (r .desk) trace
 
   stays : (s₀ : State) (ps : Trace) (c : Call) (d : Desk) (n : ℕ) → eqb n 0 ≡ false → Inv s₀ d ps → Onward s₀ ps c d (record { number = n; desk = d })
   unfolding survive keep
-  stays s₀ ps c d n z I = record { trace = ps; inv = I; live = rw z; kept = rw z }
+  stays s₀ ps c d n z I = record { trace = ps; inv = I; live = rw z; met = rw z; kept = rw z }
 
   module _ (s₀ : State) (d : Desk) (ps : Trace) (I : Inv s₀ d ps) where
     abbrev here : State
@@ -178,6 +175,7 @@ module _ (rom : List ℕ) (bytes : Bytes rom) (small : length rom ≤ 4194304) (
                 holds = rw (fresh-cap, e, ba) (newest, older);
               };
           live = refl;
+          met = refl;
           kept = rw (fresh-cap, e, ba, w);
         }
 
@@ -241,6 +239,7 @@ module _ (rom : List ℕ) (bytes : Bytes rom) (small : length rom ≤ 4194304) (
               holds = rw less (H .1);
             };
         live = refl;
+        met = refl;
         kept = rw (less, e);
       })
 
@@ -258,11 +257,12 @@ module _ (rom : List ℕ) (bytes : Bytes rom) (small : length rom ≤ 4194304) (
     trace : Trace
     inv : Inv s₀ (run rom d cs) trace
     live : survivorsFrom (ops ps) (deeds rom d cs) ≡ ops trace
+    met : survivorsFrom ps (deedsAt rom d cs) ≡ trace
     kept : keepFrom cap (shelf d ps) (deeds rom d cs) ≡ shelf (run rom d cs) trace
 
   ended : (s₀ : State) (d : Desk) (ps : Trace) → Inv s₀ d ps → (cs : List Call) → AllOf TypedCall cs → Ended s₀ d ps cs
-  unfolding run deeds survivorsFrom keepFrom
-  ended s₀ d ps I [] t = record { trace = ps; inv = I; live = refl; kept = refl }
+  unfolding run deeds deedsAt survivorsFrom keepFrom
+  ended s₀ d ps I [] t = record { trace = ps; inv = I; live = refl; met = refl; kept = refl }
   ended s₀ d ps I (c ∷ cs) t =
       let N = onward s₀ d ps I c (t .0) in
       let E = ended s₀ (called rom c d .desk) (N .trace) (N .inv) cs (t .1) in
@@ -271,6 +271,7 @@ module _ (rom : List ℕ) (bytes : Bytes rom) (small : length rom ≤ 4194304) (
         trace = E .trace;
         inv = E .inv;
         live = ap (λ (l : List Op). survivorsFrom l ds) (N .live) ∙ E .live;
+        met = ap (λ (l : Trace). survivorsFrom l (deedsAt rom (called rom c d .desk) cs)) (N .met) ∙ E .met;
         kept = ap (λ (k : Shelf Op). keepFrom cap k ds) (N .kept) ∙ E .kept;
       }
 
@@ -307,15 +308,45 @@ module _ (rom : List ℕ) (bytes : Bytes rom) (small : length rom ≤ 4194304) (
       let z = ap (λ (x : State). numberOf (p .op) (x .machine)) (trail-rules s₀ (p .was) ps (T .4)) ∙ T .2 in
       rw reverse-cons (goes-last s₀ (reverse (ops ps)) (p .op) (trail-goes s₀ (p .was) ps (T .4)) (T .1) z)
 
+  -- an operation that is not refused
+  accepted : (s₀ : State) (d : Desk) (ps : Trace) → Inv s₀ d ps → (o : Op) → numberOf o (d .bench .machine) ≡ 0 → called rom (operation o) d ≡ reply 0 d (obeyed rom o (stateOf d))
+  accepted s₀ d ps I o z =
+      op-called rom d (lent-none s₀ d ps I (length rom) small) (I .sound .summed) o ∙ ap (λ (n : ℕ). reply n d (obeyed rom o (stateOf d))) z
+
   -- called one after another they come to what the rules give
   run-alone : (s₀ : State) (d : Desk) (ps : Trace) → Inv s₀ d ps → (os : List Op) → Goes (stateOf d) os → stateOf (run rom d (map operation os)) ≡ obeyedAll rom (stateOf d) os
   unfolding run obeyedAll noted
   run-alone s₀ d ps I [] G = refl
   run-alone s₀ d ps I (o ∷ os) G =
       let x = obeyed rom o (stateOf d) in
-      let e : called rom (operation o) d ≡ reply 0 d x = op-called rom d (lent-none s₀ d ps I (length rom) small) (I .sound .summed) o ∙ ap (λ (n : ℕ). reply n d x) (G .1) in
       let N = op-taken s₀ d ps I o (G .0) (G .1) in
-      ap (λ (r : Reply). stateOf (run rom (r .desk) (map operation os))) e ∙ run-alone s₀ (reply 0 d x .desk) (N .trace) (N .inv) os (G .2)
+      ap (λ (r : Reply). stateOf (run rom (r .desk) (map operation os))) (accepted s₀ d ps I o (G .1)) ∙ run-alone s₀ (reply 0 d x .desk) (N .trace) (N .inv) os (G .2)
+
+  -- each meets the state that the ones before it lead to
+  abbrev meets : State → List Op → Trace
+  meets s [] = []
+  meets s (o ∷ os) = record { op = o; was = s } ∷ meets (obeyed rom o s .state) os
+
+  meets-last : (s : State) (os : List Op) (o : Op) → meets s (os ++ (o ∷ [])) ≡ meets s os ++ (record { op = o; was = obeyedAll rom s os } ∷ [])
+  unfolding obeyedAll
+  meets-last s [] o = refl
+  meets-last s (x ∷ os) o = ap (λ (l : Trace). record { op = x; was = s } ∷ l) (meets-last (obeyed rom x s .state) os o)
+
+  trail-meets : (s₀ s : State) (ps : Trace) → Trail s₀ ps s → meets s₀ (reverse (ops ps)) ≡ reverse ps
+  trail-meets s₀ s [] T = refl
+  trail-meets s₀ s (p ∷ ps) T =
+      ap (meets s₀) (reverse-cons (p .op) (ops ps))
+      ∙ meets-last s₀ (reverse (ops ps)) (p .op)
+      ∙ (λ i. trail-meets s₀ (p .was) ps (T .4) i ++ (record { op = p .op; was = trail-rules s₀ (p .was) ps (T .4) i } ∷ []))
+      ∙ sym (reverse-cons p ps)
+
+  alone-meets : (s₀ : State) (d : Desk) (ps : Trace) → Inv s₀ d ps → (os : List Op) → Goes (stateOf d) os → deedsAt rom d (map operation os) ≡ map did (meets (stateOf d) os)
+  unfolding deedsAt noted
+  alone-meets s₀ d ps I [] G = refl
+  alone-meets s₀ d ps I (o ∷ os) G =
+      let N = op-taken s₀ d ps I o (G .0) (G .1) in
+      ap (λ (r : Reply). deedAt (operation o) d (r .number) ∷ deedsAt rom (r .desk) (map operation os)) (accepted s₀ d ps I o (G .1))
+      ∙ ap (λ (l : List (Deed Met)). did (record { op = o; was = stateOf d }) ∷ l) (alone-meets s₀ (reply 0 d (obeyed rom o (stateOf d)) .desk) (N .trace) (N .inv) os (G .2))
 
   -- ---- the promise
 
@@ -332,28 +363,35 @@ module _ (rom : List ℕ) (bytes : Bytes rom) (small : length rom ≤ 4194304) (
         rw (op-called rom d (lent-none s₀ d ps I (length rom) small) (I .sound .summed) o) (op-sound o (d .bench .machine) d (obeyed rom o (stateOf d)))
     call-sound back t = rw (back-number (d .bench .kept) ps refl (I .holds)) (back-sound (d .bench .kept))
 
-  module _ (d₀ : Desk) (fresh : d₀ .bench .length ≡ len) (slot : d₀ .bench .slot ≡ 0) (kept : d₀ .bench .kept ≡ 0) (I₀ : Inv (stateOf d₀) d₀ []) (cs : List Call) (t : AllOf TypedCall cs) where
+  module _ (d₀ : Desk) (fresh : d₀ .bench .length ≡ len) (slot : d₀ .bench .slot ≡ 0) (kept : d₀ .bench .kept ≡ 0) (I : (entries : List ℕ) → length entries ≡ length (d₀ .entries) → Inv (stateOf d₀) (onRecord d₀ entries) []) (cs : List Call) (t : AllOf TypedCall cs) where
     pub promised : Rewound rom d₀ cs
     unfolding survivors keptOps
     promised =
+        let I₀ = I (d₀ .entries) refl in
         let E = ended (stateOf d₀) d₀ [] I₀ cs t in
         let d = run rom d₀ cs in
-        let I = E .inv in
+        let J = E .inv in
         let ds = deeds rom d₀ cs in
         let c : capacity (d₀ .bench .length) ≡ cap = ap capacity fresh in
         let live : survivors ds ≡ ops (E .trace) = E .live in
         let start : shelf d₀ [] ≡ record { next = 0; held = [] } = rw (slot, kept) in
         let held : keptOps (capacity (d₀ .bench .length)) ds ≡ placed (d .bench .slot) (d .bench .kept) (E .trace) =
         rw c (ap (λ (k : Shelf Op). keepFrom cap k ds .held) (sym start) ∙ ap (λ (k : Shelf Op). k .held) (E .kept)) in
-        let l : length (keptOps (capacity (d₀ .bench .length)) ds) ≡ d .bench .kept = ap length held ∙ placed-length (d .entries) (d .bench .slot) (d .bench .kept) (E .trace) (I .holds) in
-        let rules : obeyedAll rom (stateOf d₀) (reverse (survivors ds)) ≡ stateOf d = rw live (trail-rules (stateOf d₀) (stateOf d) (E .trace) (I .trail)) in
-        let goes : Goes (stateOf d₀) (reverse (survivors ds)) = rw live (trail-goes (stateOf d₀) (stateOf d) (E .trace) (I .trail)) in
+        let l : length (keptOps (capacity (d₀ .bench .length)) ds) ≡ d .bench .kept = ap length held ∙ placed-length (d .entries) (d .bench .slot) (d .bench .kept) (E .trace) (J .holds) in
+        let rules : obeyedAll rom (stateOf d₀) (reverse (survivors ds)) ≡ stateOf d = rw live (trail-rules (stateOf d₀) (stateOf d) (E .trace) (J .trail)) in
+        let goes : Goes (stateOf d₀) (reverse (survivors ds)) = rw live (trail-goes (stateOf d₀) (stateOf d) (E .trace) (J .trail)) in
         record {
           alone = run-alone (stateOf d₀) d₀ [] I₀ (reverse (survivors ds)) goes ∙ rules;
           rules = rules;
+          met = λ entries h.
+              alone-meets (stateOf d₀) (onRecord d₀ entries) [] (I entries h) (reverse (survivors ds)) goes
+              ∙ (λ i. map did (meets (stateOf d₀) (reverse (live i))))
+              ∙ ap (map did) (trail-meets (stateOf d₀) (stateOf d) (E .trace) (J .trail))
+              ∙ sym (ap (λ (l : Trace). map did (reverse l)) (E .met));
           counted = sym l;
           latest = ap (map (λ p. p .op)) held ∙ placed-ops (d .bench .slot) (d .bench .kept) (E .trace) ∙ (λ i. take (sym l i) (sym live i));
-          refused = back-number (stateOf d₀) d (E .trace) I (d .bench .kept) (E .trace) refl (I .holds) ∙ ap (λ (k : ℕ). pick (eqb k 0) 8 0) (sym l);
-          summed = I .sound .summed;
-          sound = call-sound (stateOf d₀) d (E .trace) I;
+          refused = back-number (stateOf d₀) d (E .trace) J (d .bench .kept) (E .trace) refl (J .holds) ∙ ap (λ (k : ℕ). pick (eqb k 0) 8 0) (sym l);
+          summed = J .sound .summed;
+          sizes = (J .sound .good .low-length, J .sound .good .high-length, J .sound .long ∙ sym (I₀ .sound .long));
+          sound = call-sound (stateOf d₀) d (E .trace) J;
         }

@@ -10,9 +10,9 @@ use lib.ListN.{length, take}
 use Rattle.bench.specs.Calls.{Desk, desk, freshCall}
 use Rattle.common.specs.{All.AllOf, Pick.pick, Width.Bytes}
 use Rattle.layout.specs.Layout.{capacity}
-use Rattle.rewind.specs.{History.survivors, History.keptOps, Rules.Op, Rules.obeyedAll}
+use Rattle.rewind.specs.{History.did, History.survivors, History.keptOps, Rules.Op, Rules.obeyedAll}
 use Rattle.wram.specs.Sum.{ramSum}
-use Rattle.rewind.specs.Run.{Call, operation, back, TypedCall, called, run, deeds, stateOf}
+use Rattle.rewind.specs.Run.{Call, operation, back, TypedCall, called, run, deeds, deedsAt, stateOf}
 
 -- what is lent: a ROM that is not too long, two banks with any fill, a record of fresh's length; all of them bytes
 pub record Lent (rom low high entries : List ℕ) (length₀ : ℕ) : Type 0 where
@@ -25,6 +25,10 @@ pub record Lent (rom low high entries : List ℕ) (length₀ : ℕ) : Type 0 whe
 -- a desk from fresh
 abbrev pub freshDesk : (length₀ bitcycles : ℕ) → (low high entries : List ℕ) → Desk
 freshDesk length₀ bitcycles low high entries = desk (freshCall low high length₀ bitcycles .bench) low high entries
+
+-- a desk with another record
+abbrev pub onRecord : Desk → List ℕ → Desk
+onRecord d entries = record { bench = d .bench; ram = d .ram; entries = entries }
 
 -- no call is refused by 1, 2, 3, 4 or 9
 pub record Sound (number : ℕ) : Type 0 where
@@ -48,6 +52,8 @@ module _ (rom : List ℕ) (d₀ : Desk) (cs : List Call) where
     pub alone : stateOf (run rom d₀ (map operation alive)) ≡ stateOf (run rom d₀ cs)
     -- and what the rules give for them, with no record and no refusal
     pub rules : obeyedAll rom (stateOf d₀) alive ≡ stateOf (run rom d₀ cs)
+    -- called alone, on whatever record of that length, they are all accepted, and each meets the state that it met
+    pub met : (entries : List ℕ) → length entries ≡ length (d₀ .entries) → deedsAt rom (onRecord d₀ entries) (map operation alive) ≡ map did (reverse (survivors (deedsAt rom d₀ cs)))
     -- the machine counts the operations that the record keeps
     pub counted : run rom d₀ cs .bench .kept ≡ kept
     -- they are the latest survivors
@@ -56,6 +62,8 @@ module _ (rom : List ℕ) (d₀ : Desk) (cs : List Call) where
     pub refused : called rom back (run rom d₀ cs) .number ≡ pick (eqb kept 0) 8 0
     -- the sum is that of all bytes in the banks
     pub summed : run rom d₀ cs .bench .sum ≡ ramSum (run rom d₀ cs .ram)
+    -- banks and record keep their lengths
+    pub sizes : (length (run rom d₀ cs .ram .low) ≡ 65536) × (length (run rom d₀ cs .ram .high) ≡ 65536) × (length (run rom d₀ cs .entries) ≡ length (d₀ .entries))
     -- whatever call comes next
     pub sound : (c : Call) → TypedCall c → Sound (called rom c (run rom d₀ cs) .number)
 

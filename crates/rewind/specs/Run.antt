@@ -32,6 +32,10 @@ called rom (operation (plug port on)) d = let r = plugCall rom d port on in reco
 called rom (operation (answer addr byte)) d = let r = answerCall rom d addr byte in record { number = r .number; desk = r .desk }
 called rom back d = let r = backCall d in record { number = r .number; desk = r .desk }
 
+-- demand 3's state of a desk: next slot, kept, the sum and the record are no part of it
+abbrev pub stateOf : Desk → State
+stateOf d = record { machine = d .bench .machine; ram = d .ram }
+
 -- what a call did, by its number
 abbrev pub made : Call → Deed Op
 made (operation o) = did o
@@ -40,6 +44,20 @@ made back = struck
 -- a refused call did nothing
 abbrev pub deed : Call → ℕ → Deed Op
 deed c number = pick (eqb number 0) (made c) nothing
+
+-- an operation, and the state that it met
+pub record Met : Type 0 where
+  pub op : Op
+  pub was : State
+
+-- what a call did, with the state that it met
+abbrev pub madeAt : Call → Desk → Deed Met
+madeAt (operation o) d = did (record { op = o; was = stateOf d })
+madeAt back d = struck
+
+-- by its number: a refused call did nothing
+abbrev pub deedAt : Call → Desk → ℕ → Deed Met
+deedAt c d number = pick (eqb number 0) (madeAt c d) nothing
 
 module _ (rom : List ℕ) where
   -- what the calls leave
@@ -52,6 +70,7 @@ module _ (rom : List ℕ) where
   deeds d [] = []
   deeds d (c ∷ cs) = deed c (called rom c d .number) ∷ deeds (called rom c d .desk) cs
 
--- demand 3's state of a desk: next slot, kept, the sum and the record are no part of it
-abbrev pub stateOf : Desk → State
-stateOf d = record { machine = d .bench .machine; ram = d .ram }
+  -- what the calls did, with the states that they met
+  unfoldable pub deedsAt : Desk → List Call → List (Deed Met)
+  deedsAt d [] = []
+  deedsAt d (c ∷ cs) = deedAt c d (called rom c d .number) ∷ deedsAt (called rom c d .desk) cs

@@ -1,10 +1,10 @@
--- Document 01's table of refusals in words, in characters' ASCII codes.
+-- The tables of refusals of documents 01 and 02 in words, in characters' ASCII codes.
 use Prim.Native.Nat.{ℕ}
 use mathlib.Core.List.{List, [], _∷_}
 use Rattle.common.specs.Table.{Entry, at, find}
 use Rattle.append.specs.Texts.{codes}
 
--- the table in its order, up to its last row
+-- the table in its order without its last row, and the rows that document 02 adds
 abbrev pub refusals : List (Entry (List ℕ))
 refusals =
     at 1 (codes "a work RAM slice is not 65536 bytes")
@@ -18,9 +18,11 @@ refusals =
     ∷ at 9 (codes "the newest entry breaks its ranges")
     ∷ at 10 (codes "bit cycles outside 1 to 4096")
     ∷ at 11 (codes "no bench file")
+    ∷ at 13 (codes "a total would pass 2^64 - 1")
+    ∷ at 14 (codes "more than 256 files")
     ∷ []
 
--- its last row: 12
+-- document 01's last row: 12
 abbrev pub pageWords : List ℕ
 pageWords = codes "page over 511"
 

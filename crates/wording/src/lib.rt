@@ -7,7 +7,7 @@ ghost use Rattle.append.specs.Sheet.{sheet, puts};
 ghost use Rattle.wording.specs.Words.{wordsOf};
 use append::put;
 
-// Document 01's table, in its order.
+// Document 01's table, in its order; 13 and 14 are document 02's.
 pub fn words(out: &mut [u8], at: usize, number: u8) -> usize
     ensures { λ r. ⌜ sheet (now (out .exit)) r ≡ puts (sheet (now (out .entry)) at) (wordsOf number) ⌝ }
 {
@@ -27,6 +27,8 @@ pub fn words(out: &mut [u8], at: usize, number: u8) -> usize
         9 => put(out, at, b"the newest entry breaks its ranges"),
         10 => put(out, at, b"bit cycles outside 1 to 4096"),
         11 => put(out, at, b"no bench file"),
+        13 => put(out, at, b"a total would pass 2^64 - 1"),
+        14 => put(out, at, b"more than 256 files"),
         _ => put(out, at, b"page over 511"),
     }
 }

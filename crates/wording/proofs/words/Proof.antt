@@ -50,12 +50,24 @@ returns-11 c = said _ (c .before .before .before .before .before .match .keys11)
 
 returns-12 : tie.Need-returns-12
 unfolding wordsOf
-returns-12 c = told _ (find-none Unit refusals _ pageWords (c .before .before .before .before .before .match .rest)) (c .before .before .put12 .ensures)
+returns-12 c = said _ (c .before .before .before .before .before .match .keys12) (c .before .before .put12 .ensures)
+
+returns-13 : tie.Need-returns-13
+unfolding wordsOf
+returns-13 c = said _ (c .before .before .before .before .before .match .keys13) (c .before .before .put13 .ensures)
+
+returns-14 : tie.Need-returns-14
+unfolding wordsOf
+returns-14 c = told _ (find-none Unit refusals _ pageWords (c .before .before .before .before .before .match .rest)) (c .before .before .put14 .ensures)
 
 pub words-spec : {M : Type 1} → statement M
 words-spec =
     tie.close
     (tie.spec
+    (λ c. search needs)
+    (λ c κs. search needs)
+    (λ c. search needs)
+    (λ c κs. search needs)
     (λ c. search needs)
     (λ c κs. search needs)
     (λ c. search needs)
@@ -103,4 +115,8 @@ words-spec =
     (λ c. search needs)
     returns-11
     (λ c. search needs)
-    returns-12)
+    returns-12
+    (λ c. search needs)
+    returns-13
+    (λ c. search needs)
+    returns-14)

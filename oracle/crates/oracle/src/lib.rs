@@ -6,6 +6,7 @@ pub mod benchfile;
 pub mod calls;
 pub mod convert;
 pub mod coverage;
+pub mod figures;
 pub mod generator;
 pub mod image;
 pub mod layout;

@@ -1,8 +1,10 @@
 //! The oracle's programs. Run without arguments for the list.
 
-use oracle::{coverage, generator, listed, moves, page, selfcheck, sums, trace};
+use oracle::{coverage, figures, generator, listed, moves, page, selfcheck, sums, trace};
+use std::ffi::OsString;
 use std::fs;
 use std::io::{self, Read, Write};
+use std::os::unix::ffi::OsStrExt;
 use std::path::Path;
 use std::process::ExitCode;
 
@@ -11,6 +13,7 @@ const USAGE: &str = "usage:
   oracle moves [PLACE]          print the accesses of the bench file on standard input (docs/MOVES.md)
   oracle page PLACE             show a page of work RAM after the bench file on standard input (docs/BENCH.md)
   oracle sums                   print the sum of work RAM after each row of the bench file on standard input
+  oracle figures FILE..         print what each channel moved in bench files, and the cycles held
   oracle selfcheck SEED COUNT   random runs with back steps, COUNT accepted operations in all
   oracle make SEED COUNT DIR    write COUNT bench files and LIST (file name, kind) into DIR
   oracle one SEED INDEX         write one of these files to standard output
@@ -21,8 +24,7 @@ const USAGE: &str = "usage:
   oracle reached                count what the list on standard input reaches; fails as coverage does";
 
 fn main() -> ExitCode {
-    let words: Vec<String> = std::env::args().skip(1).collect();
-    let words: Vec<&str> = words.iter().map(String::as_str).collect();
+    let words: Vec<OsString> = std::env::args_os().skip(1).collect();
     match run(&words) {
         Ok(()) => ExitCode::SUCCESS,
         Err(message) => {
@@ -32,7 +34,15 @@ fn main() -> ExitCode {
     }
 }
 
-fn run(words: &[&str]) -> Result<(), String> {
+/// The names of files may be any bytes; all other words are text.
+fn run(words: &[OsString]) -> Result<(), String> {
+    match words {
+        [word, names @ ..] if word == "figures" => show_figures(names),
+        _ => run_text(&words.iter().map(|word| word.to_str().ok_or(USAGE)).collect::<Result<Vec<&str>, _>>()?),
+    }
+}
+
+fn run_text(words: &[&str]) -> Result<(), String> {
     match *words {
         ["trace"] => show_trace(&read_input()?),
         ["trace", file] => show_trace(&fs::read(file).map_err(|error| format!("{file}: {error}"))?),
@@ -84,6 +94,15 @@ fn show_moves(only: Option<u32>) -> Result<(), String> {
 fn show_sums() -> Result<(), String> {
     let (lines, message) = sums::sums(&read_input()?);
     print(lines.as_bytes())?;
+    message.map_or(Ok(()), Err)
+}
+
+/// A file that cannot be read stands in the way of all lines.
+fn show_figures(names: &[OsString]) -> Result<(), String> {
+    let (count, message) = figures::counted(names.len());
+    let read = |name: &OsString| fs::read(name).map_err(|error| format!("figures: {}: {error}", name.display()));
+    let files = names[..count].iter().map(|name| Ok((name.as_bytes(), read(name)?)));
+    print(&figures::figures(&files.collect::<Result<Vec<_>, String>>()?))?;
     message.map_or(Ok(()), Err)
 }
 

@@ -1,10 +1,9 @@
 //! The lines of the program moves (docs/MOVES.md): every access of a run, who made it, and the byte of work RAM it reached.
 
-use crate::bench::{Bench, RowAnswer, Step};
-use crate::benchfile::BenchFile;
+use crate::bench::{RowAnswer, Step};
 use crate::image::{ENTRY_SIZE, Engine};
 use crate::row::Row;
-use crate::trace::RECORD_LENGTH;
+use crate::trace::{RECORD_LENGTH, start};
 use rsnes::logged::Access;
 use std::fmt::Write;
 
@@ -12,11 +11,9 @@ const CAPACITY: usize = RECORD_LENGTH / ENTRY_SIZE;
 
 /// The lines printed for a file, or the line that says why it cannot be run. With a place, only what touched it.
 pub fn moves(file: &[u8], only: Option<u32>) -> Result<String, String> {
-    let refused = |number| format!("moves: standard input: {}", refusal(number));
-    let file = BenchFile::parse(file).ok_or_else(|| refused(11))?;
-    let mut bench = Bench::fresh(RECORD_LENGTH, file.bit_cycles, &file.fill, file.rom.into()).map_err(refused)?;
+    let (mut bench, rows) = start(file).map_err(|number| format!("moves: standard input: {}", refusal(number)))?;
     let mut listing = Listing { text: String::new(), only, row: 0, done: 0, made: [(0, 0); CAPACITY], left: (0, 0) };
-    for row in file.rows {
+    for row in rows {
         (listing.row, listing.done) = (listing.row + 1, 0);
         let answer = bench.row(row, &mut |step| listing.step(&step));
         listing.row_end(row, answer, bench.machine.image.clock);
@@ -118,7 +115,7 @@ impl Listing {
 }
 
 /// Who makes the accesses of a cycle: in state Dma the transfer in progress, in state Hdma the channel that left the queue.
-fn holder(before: &Engine, after: &Engine) -> (&'static str, u8) {
+pub(crate) fn holder(before: &Engine, after: &Engine) -> (&'static str, u8) {
     match before.state {
         2 if before.present != 0 => ("DMA", before.channel),
         3 => ("HDMA", (before.queue & !after.queue).trailing_zeros() as u8),
@@ -137,7 +134,7 @@ fn starts_at_zero(step: &Step) -> bool {
     dma.state == 2 && dma.unit == 0 && step.before.image.channels[usize::from(dma.channel)].das == 0
 }
 
-/// The numbers that a file or a row of one can be refused with.
+/// The numbers that a folder, a file or a row of one can be refused with.
 pub(crate) fn refusal(number: u8) -> String {
     let words = match number {
         5 => "event over 4",
@@ -146,6 +143,7 @@ pub(crate) fn refusal(number: u8) -> String {
         8 => "back with no operation kept",
         10 => "bit cycles outside 1 to 4096",
         11 => "no bench file",
+        14 => "more than 256 files",
         _ => unreachable!("a bench lends what its calls take"),
     };
     format!("refusal {number}: {words}")

@@ -1,9 +1,7 @@
 //! A page of work RAM after a run, as the program page shows it (docs/BENCH.md).
 
-use crate::bench::Bench;
-use crate::benchfile::BenchFile;
 use crate::calls::page_look;
-use crate::trace::RECORD_LENGTH;
+use crate::trace::start;
 
 /// The work RAM place of a word such as `$7E:1234` or `7E1234`.
 pub fn place(word: &str) -> Option<u32> {
@@ -16,11 +14,8 @@ pub fn place(word: &str) -> Option<u32> {
 
 /// The page that holds a place, after the rows up to the first refused one; nothing for a file that cannot be run.
 pub fn page(file: &[u8], place: u32) -> String {
-    let Some(file) = BenchFile::parse(file) else { return String::new() };
-    let Ok(mut bench) = Bench::fresh(RECORD_LENGTH, file.bit_cycles, &file.fill, file.rom.into()) else {
-        return String::new();
-    };
-    let _ = file.rows.into_iter().all(|row| bench.row(row, &mut |_| {}).number == 0);
+    let Ok((mut bench, rows)) = start(file) else { return String::new() };
+    let _ = rows.into_iter().all(|row| bench.row(row, &mut |_| {}).number == 0);
     let start = place & !0xFF;
     let lines = page_look(&bench.banks, u64::from(place) / 256).chunks_exact(16);
     lines.zip((start..).step_by(16)).map(|(bytes, place)| line(place, bytes)).collect()

@@ -1,19 +1,16 @@
 //! The lines of the program sums: the sum of all work RAM bytes after each row of a run.
 
 use crate::bench::Bench;
-use crate::benchfile::BenchFile;
 use crate::moves::refusal;
 use crate::row::Row;
-use crate::trace::RECORD_LENGTH;
+use crate::trace::start;
 use std::fmt::Write;
 
 /// The lines printed for a file, and the message if the file cannot be run or a row of it is refused.
 pub fn sums(file: &[u8]) -> (String, Option<String>) {
-    let whole = |number| (String::new(), Some(format!("sums: standard input: {}", refusal(number))));
-    let Some(file) = BenchFile::parse(file) else { return whole(11) };
-    match Bench::fresh(RECORD_LENGTH, file.bit_cycles, &file.fill, file.rom.into()) {
-        Ok(bench) => rows(bench, &file.rows),
-        Err(number) => whole(number),
+    match start(file) {
+        Ok((bench, script)) => rows(bench, &script),
+        Err(number) => (String::new(), Some(format!("sums: standard input: {}", refusal(number)))),
     }
 }
 

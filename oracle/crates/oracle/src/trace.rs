@@ -2,6 +2,7 @@
 
 use crate::bench::{Bench, Step};
 use crate::benchfile::BenchFile;
+use crate::row::Row;
 use std::fmt::Write;
 
 pub const RECORD_LENGTH: usize = 65_536;
@@ -13,16 +14,22 @@ pub fn trace(file: &[u8]) -> String {
 
 /// The same, with each call shown to an onlooker.
 pub fn watched(file: &[u8], watch: &mut dyn FnMut(Step)) -> String {
-    let Some(file) = BenchFile::parse(file) else { return refused_whole(11) };
-    match Bench::fresh(RECORD_LENGTH, file.bit_cycles, &file.fill, file.rom.clone().into()) {
-        Ok(bench) => rows(bench, &file, watch),
-        Err(number) => refused_whole(number),
+    match start(file) {
+        Ok((bench, script)) => rows(bench, &script, watch),
+        Err(number) => format!("0 0 {number} 0 0\n"),
     }
 }
 
-fn rows(mut bench: Bench, file: &BenchFile, watch: &mut dyn FnMut(Step)) -> String {
+/// A fresh bench for a file, and the rows of its script; or the number with which the whole file is refused.
+pub fn start(file: &[u8]) -> Result<(Bench, Vec<Row>), u8> {
+    let file = BenchFile::parse(file).ok_or(11)?;
+    let bench = Bench::fresh(RECORD_LENGTH, file.bit_cycles, &file.fill, file.rom.into())?;
+    Ok((bench, file.rows))
+}
+
+fn rows(mut bench: Bench, script: &[Row], watch: &mut dyn FnMut(Step)) -> String {
     let mut lines = String::new();
-    for (index, row) in file.rows.iter().enumerate() {
+    for (index, row) in script.iter().enumerate() {
         let answer = bench.row(*row, watch);
         writeln!(lines, "{} {} {} {} {}", index + 1, row.kind(), answer.number, answer.a, answer.b)
             .expect("a string takes every line");
@@ -31,8 +38,4 @@ fn rows(mut bench: Bench, file: &BenchFile, watch: &mut dyn FnMut(Step)) -> Stri
         }
     }
     lines
-}
-
-fn refused_whole(number: u8) -> String {
-    format!("0 0 {number} 0 0\n")
 }

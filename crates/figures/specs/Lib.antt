@@ -1,0 +1,2 @@
+-- The figures of one file.
+pub mod Count

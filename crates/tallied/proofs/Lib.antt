@@ -1,0 +1,15 @@
+pub mod Count
+pub mod Turns
+pub mod Ties
+pub mod Adds
+pub mod Calls
+pub mod Walk
+pub mod Counted
+pub mod Flat
+pub mod Alive
+pub mod Typed
+pub mod Never
+pub mod Columns
+pub mod Sized
+pub mod Files
+pub mod Folder

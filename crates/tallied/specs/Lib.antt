@@ -1,0 +1,3 @@
+-- What the figures are.
+pub mod Tied
+pub mod History

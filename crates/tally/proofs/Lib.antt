@@ -1,0 +1,4 @@
+pub mod Join
+pub mod Totals
+pub mod Writes
+pub mod Wrong

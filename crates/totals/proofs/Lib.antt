@@ -1,0 +1,10 @@
+pub mod Tests
+pub mod Placed
+pub mod Passing
+pub mod Folders
+pub mod Common
+pub mod Means
+pub mod Over
+pub mod Files
+pub mod Refused
+pub mod Wrong

@@ -17,7 +17,7 @@ use Rattle.script.specs.Row.{rowRun}
 use Rattle.start.specs.Start.{filledBy, madeFor, refusalOf}
 use Rattle.wording.specs.Line.{sumText}
 use Rattle.wram.specs.{Banks.banks, Sum.ramSum}
-use Rattle.printout.proofs.Whole.{neither}
+use Rattle.ring.proofs.Also.{neither}
 use Rattle.printout.specs.Row.{shownText}
 use Rattle.printout.specs.Trace.{linesFrom, zeros, firstDesk, sumsText, addedLines}
 use Rattle.printout.specs.declared.row.Show.the-variants.{Sum}

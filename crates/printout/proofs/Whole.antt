@@ -16,7 +16,7 @@ use Rattle.benchfile.specs.{File.bodyOf, File.fileCheck, Row.rowBytes, Row.rowO
 use Rattle.script.specs.{Run.Running, Row.rowRun}
 use Rattle.append.specs.Sheet.{sheet, puts, shownOf}
 use Rattle.append.proofs.Laws.{puts-room}
-use Rattle.ring.specs.Refusal.{alsoOf}
+use Rattle.ring.proofs.Also.{neither}
 use Rattle.start.specs.Start.{madeFor, refusalOf, Starting, startRun}
 use Rattle.printout.specs.Row.{textOf, rowShown}
 use Rattle.wording.specs.Line.{lineText, refusedText}
@@ -87,11 +87,6 @@ module _ (rom script : List ℕ) (show : Show) where
       let k : s .next < t .next = goes-on n s h z r in
       let l : t .next ≤ stepped rom script show t .next = onward-by t _ _ _ refl refl refl in
       omega arith
-
--- neither of two numbers refuses
-pub neither : (first second : ℕ) → alsoOf first second ≡ 0 → (first ≡ 0) × (second ≡ 0)
-neither zero second z = (refl, z)
-neither (suc n) second z = let k : suc n ≡ 0 = rw (ne-eqb (suc n) 0 (λ e. omega (arith, e))) at z in absurd (omega (arith, k))
 
 module _ (f : List ℕ) where
   abbrev number : ℕ

@@ -19,6 +19,7 @@ use Rattle.fields.proofs.Parts.{part-bytes}
 use Rattle.fields.specs.Little.{field}
 use Rattle.rewind.proofs.{Demand.demand3, Fresh.fresh-number}
 use Rattle.rewind.specs.Promise.{Lent, freshDesk}
+use Rattle.ring.proofs.Also.{neither}
 use Rattle.ring.specs.Refusal.{alsoOf, freshNumber}
 use Rattle.rewind.specs.Run.{Call}
 use Rattle.start.proofs.Repeat.{repeated-length}
@@ -209,10 +210,6 @@ whole-refused f l h e alive all kept z =
     )
 
 -- ---- a file that is not refused can be run
-
-neither : (a b : ℕ) → alsoOf a b ≡ 0 → (a ≡ 0) × (b ≡ 0)
-neither zero b e = (refl, e)
-neither (suc a) b e = let z : suc a ≡ 0 = rw (ne-eqb (suc a) 0 (λ q. omega arith)) at e in absurd (omega arith)
 
 pub can-run : (f l h : List ℕ) → length l ≡ 65536 → length h ≡ 65536 → refusalOf f l h ≡ 0
     → (fileCheck f ≡ 0) × (freshCall (bankOf f) (bankOf f) 65536 (bitsOf f) .number ≡ 0)

@@ -1,5 +1,5 @@
 -- No run of at most 8,192 rows is refused by 13: a call adds at most 55 to any total, and a row is at most 65,535 calls.
-use Prim.Native.Nat.{ℕ, suc, _+_, _*_, _%_, _≤_, _<_, min}
+use Prim.Native.Nat.{ℕ, suc, _+_, _-_, _*_, _%_, _^_, _≤_, _<_, min}
 use mathlib.Core.Bool.{Bool, false}
 use mathlib.Core.List.{List, [], _∷_}
 use mathlib.Core.Logic.{_≢_}
@@ -146,7 +146,7 @@ module _ (b : ℕ) (room : b ≤ 18446744073709551604) (l : List ℕ) (u : Under
   count-low s L =
       let c = s .channel % 8 in
       let k = s .state % 4 in
-      let none : (i x : ℕ) → x ≤ 11 → passes i x l ≡ false = λ i x h. le-ltb 18446744073709551615 (x + getD l i 0) (omega (arith, u i)) in
+      let none : (i x : ℕ) → x ≤ 11 → passes i x l ≡ false = λ i x h. le-ltb (2 ^ 64 - 1) (getD l i 0 + x) (omega (arith, u i)) in
       let l₁ = more c (s .general) l in
       let l₂ = more (c + 8) (s .units) l₁ in
       let l₃ = more (c + 16) (s .table) l₂ in

@@ -1,15 +1,13 @@
 -- The parts of a count, joined into its definitions.
-use Prim.Native.Nat.{ℕ, _+_, _-_, _%_, _^_, _<_, min}
+use Prim.Native.Nat.{ℕ, _+_, _-_, _%_, _^_, min}
 use mathlib.Core.Bool.{Bool, true, false}
 use mathlib.Core.List.{List, [], _∷_}
 use mathlib.Core.Path.{_≡_, refl}
-use native.Mathlib.Omega.{arith}
 use denote.Enum.Declared.{tagOf}
 use types.Run.{OneOf, miss}
 use mir.Val.{boolByte}
-use lib.Dec.{eqb, ltb}
+use lib.Dec.{eqb}
 use lib.ListN.{getD, set}
-use borrow.Author.Tests.{lt-ltb, le-ltb, ltb-true, ltb-false}
 use Rattle.common.specs.Pick.{pick}
 use Rattle.bench.specs.Calls.{desk}
 use Rattle.benchfile.specs.Row.{rowAt}
@@ -64,14 +62,6 @@ count-other (Plug port on) d held after log l h = refl
 count-other (Reply addr byte) d held after log l h = refl
 count-other (Back count) d held after log l h = refl
 count-other Broken d held after log l h = refl
-
--- tested without a sum over 2^64 - 1
-pub passes-by : (x : ℕ) {n t : ℕ} → x < 18446744073709551616 → n ≡ t → ltb (18446744073709551615 - x) n ≡ ltb 18446744073709551615 (x + t)
-passes-by x {n} {t} h e = go (ltb 18446744073709551615 (x + t)) refl
-  where
-    go : (b : Bool) → ltb 18446744073709551615 (x + t) ≡ b → ltb (18446744073709551615 - x) n ≡ b
-    go true k = lt-ltb (18446744073709551615 - x) n (omega (arith, ltb-true 18446744073709551615 (x + t) k))
-    go false k = le-ltb (18446744073709551615 - x) n (omega (arith, ltb-false 18446744073709551615 (x + t) k))
 
 module _ (row : ℕ) (t : Rows) {back : Bool} where
   pub note-struck : {at n fewer : ℕ} {l : List ℕ} → back ≡ true → at ≡ latestOf (t .alive) (t .top) → n ≡ getD (t .alive) at 0 → fewer ≡ n - 1

@@ -1,5 +1,5 @@
 -- Five totals raised one after the other are raised at once: no two are the same, and none passes 2^64 - 1.
-use Prim.Native.Nat.{ℕ, _+_, _%_, _^_}
+use Prim.Native.Nat.{ℕ, _+_, _-_, _%_, _^_}
 use mathlib.Core.Bool.{Bool, true, false, _||_}
 use mathlib.Core.List.{List}
 use mathlib.Core.Logic.{_≢_}
@@ -8,18 +8,14 @@ use native.Mathlib.Omega.{arith}
 use borrow.Author.Tests.{ltb-false}
 use lib.ListN.{getD}
 use lib.Seq.{getD-set-other}
+use Rattle.totals.proofs.Tests.{neither}
 use Rattle.tally.specs.Share.{more, wrapped, passes, passing, raised, counted, countCall}
 use Rattle.tally.specs.declared.share.Share.{Share}
-
-or-both : (a b : Bool) → (a || b) ≡ false → (a ≡ false) × (b ≡ false)
-or-both true true e = (e, e)
-or-both true false e = (e, refl)
-or-both false b e = (refl, e)
 
 -- a total that has not changed and does not pass is not cut
 exact : (i x : ℕ) (l l₀ : List ℕ) → getD l i 0 ≡ getD l₀ i 0 → passes i x l₀ ≡ false → wrapped i x l ≡ more i x l
 exact i x l l₀ e h =
-    let k = ltb-false 18446744073709551615 (x + getD l₀ i 0) h in
+    let k = ltb-false (2 ^ 64 - 1) (getD l₀ i 0 + x) h in
     let small : (x + getD l i 0) % 2 ^ 64 ≡ x + getD l i 0 = omega (arith, e, k) in
     rw small
 
@@ -45,10 +41,10 @@ module _ (s : Share) (l : List ℕ) where
       → l₅ ≡ wrapped 28 (s .held) l₄ → counted 0 l₅ ≡ countCall l s
   unfolding countCall passing raised
   count-goes {g} {u} {t} {h} {a} {l₁} {l₂} {l₃} {l₄} {l₅} p q r v w e e₁ e₂ e₃ e₄ e₅ =
-      let gs = or-both g (u || (t || (h || a))) e in
-      let us = or-both u (t || (h || a)) (gs .1) in
-      let ts = or-both t (h || a) (us .1) in
-      let hs = or-both h a (ts .1) in
+      let gs = neither g (u || (t || (h || a))) e in
+      let us = neither u (t || (h || a)) (gs .1) in
+      let ts = neither t (h || a) (us .1) in
+      let hs = neither h a (ts .1) in
       let m₁ : l₁ ≡ more c (s .general) l = e₁ ∙ exact c (s .general) l l refl (sym p ∙ gs .0) in
       let m₂ : l₂ ≡ more (c + 8) (s .units) l₁ = e₂ ∙ exact (c + 8) (s .units) l₁ l (other (c + 8) c (s .general) l m₁ (λ z. omega arith)) (sym q ∙ us .0) in
       let o₃ = other (c + 16) (c + 8) (s .units) l₁ m₂ (λ z. omega arith) ∙ other (c + 16) c (s .general) l m₁ (λ z. omega arith) in

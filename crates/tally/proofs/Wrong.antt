@@ -1,5 +1,5 @@
 -- Two wrong answers of `count` that its contract rules out; and two right ones coincide.
-use Prim.Native.Nat.{ℕ, _+_, _%_}
+use Prim.Native.Nat.{ℕ, _+_, _-_, _%_, _^_}
 use mathlib.Core.Bool.{Bool, true, false, _||_}
 use mathlib.Core.List.{List}
 use mathlib.Core.Logic.{_≢_}
@@ -23,7 +23,7 @@ module _ (l : List ℕ) (s : Share) {r : ℕ} {totals : List ℕ} (k : counted r
   pub count-past-the-last : getD l 28 0 ≡ 18446744073709551615 → s .held ≡ 1 → r ≢ 0
   unfolding countCall passing
   count-past-the-last e h z =
-      let last : passes 28 (s .held) l ≡ true = lt-ltb 18446744073709551615 (s .held + getD l 28 0) (omega arith) in
+      let last : passes 28 (s .held) l ≡ true = lt-ltb (2 ^ 64 - 1) (getD l 28 0 + s .held) (omega arith) in
       let over : passing s l ≡ true = rw last (any-last (passes (s .channel % 8) (s .general) l) (passes (s .channel % 8 + 8) (s .units) l) (passes (s .channel % 8 + 16) (s .table) l) (passes (s .state % 4 + 24) (s .held) l)) in
       let n : r ≡ 13 = ap (λ (c : Counted). c .number) k ∙ ap (λ (b : Bool). pick b (counted 13 l) (counted 0 (raised s l)) .number) over in
       omega arith

@@ -3,13 +3,14 @@ use Prim.Native.Nat.{ℕ, zero, suc, _+_, _-_, _%_, _^_, min}
 use mathlib.Core.Bool.{Bool, _||_}
 use mathlib.Core.List.{List, [], _∷_, _++_}
 use mir.Val.{boolByte}
-use lib.Dec.{eqb, ltb}
+use lib.Dec.{eqb}
 use lib.ListN.{getD, set}
 use Rattle.common.specs.Pick.{pick}
 use Rattle.bus.specs.{Access.noAccess, declared.access.Access.Access, declared.access.Log.Log}
 use Rattle.state.specs.declared.DmaState.{DmaState}
 use Rattle.touch.specs.declared.who.Who.{Who}
 use Rattle.touch.specs.declared.who.Who.the-variants.{Cpu, Dma as General, Hdma}
+use Rattle.totals.specs.Limit.{passesAt}
 use Rattle.tally.specs.Figure.{Made, writes, reads, stateNumber}
 use Rattle.tally.specs.declared.share.Share.{Share}
 
@@ -50,7 +51,7 @@ wrapped i x l = set l i ((x + getD l i 0) % 2 ^ 64)
 
 -- it would pass 2^64 - 1
 abbrev pub passes : ℕ → ℕ → List ℕ → Bool
-passes i x l = ltb 18446744073709551615 (x + getD l i 0)
+passes i x l = passesAt (getD l i 0) x
 
 -- any of the five would
 unfoldable pub passing : Share → List ℕ → Bool

@@ -4,6 +4,7 @@ ghost use denote.Ref.{now};
 ghost use lib.ListN.{getD};
 ghost use Rattle.tally.specs.Share.{wrapped, passes, counted, countCall};
 use crate::share::Share;
+use totals::limit::passes_at;
 
 fn total(totals: &[u64], at: usize) -> u64
     ensures { λ r. ⌜ r ≡ getD (now (totals .entry)) at 0 ⌝ }
@@ -18,7 +19,7 @@ fn total(totals: &[u64], at: usize) -> u64
 fn over(totals: &[u64], at: usize, by: u64) -> bool
     ensures { λ r. ⌜ r ≡ passes at by (now (totals .entry)) ⌝ }
 {
-    18446744073709551615 - by < total(totals, at)
+    passes_at(total(totals, at), by)
 }
 
 // A total that would not pass 2^64 - 1 goes up.

@@ -11,7 +11,7 @@ use borrow.Author.Tests.{lt-ltb, le-ltb, ltb-true, ltb-false}
 use lib.Dec.{ltb}
 use lib.ListN.{getD}
 use Rattle.totals.proofs.Tests.{neither}
-use Rattle.totals.specs.{Place.passesAt, Column.passesIn}
+use Rattle.totals.specs.{Limit.passesAt, Column.passesIn}
 
 pub by-difference : (m a x : ℕ) → a ≤ m → ltb (m - a) x ≡ ltb m (a + x)
 by-difference m a x h = go (ltb m (a + x)) refl where

@@ -3,7 +3,7 @@ use Prim.Native.Nat.{ℕ, zero, suc, _+_}
 use mathlib.Core.Bool.{Bool, false, _||_}
 use mathlib.Core.List.{List, [], _∷_, _++_}
 use lib.ListN.{getD, replicate}
-use Rattle.totals.specs.Place.{passesAt, largerAt, fileAt}
+use Rattle.totals.specs.{Limit.passesAt, Place.largerAt, Place.fileAt}
 use Rattle.totals.specs.declared.Column.{Column}
 
 -- the list of n places whose place i is f i

@@ -1,12 +1,8 @@
--- One figure of one column when a file comes: its sum, the largest so far, and the file that has it.
-use Prim.Native.Nat.{ℕ, _+_, _-_, _^_}
+-- One figure of one column when a file comes: the largest so far, and the file that has it.
+use Prim.Native.Nat.{ℕ}
 use mathlib.Core.Bool.{Bool, _||_}
 use lib.Dec.{eqb, ltb}
 use Rattle.common.specs.Pick.{pick}
-
--- the total would pass 2^64 - 1
-abbrev pub passesAt : ℕ → ℕ → Bool
-passesAt sum x = ltb (2 ^ 64 - 1) (sum + x)
 
 -- the file takes the place: it is the first file, or its figure is larger than the largest so far
 abbrev pub takes : ℕ → ℕ → ℕ → Bool

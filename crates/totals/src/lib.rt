@@ -1,13 +1,14 @@
 // The figures of a folder: 29 of each file, added up file by file in a column, with the largest of each and the file that has it.
 pub mod folder;
+pub mod limit;
 pub mod mean;
 mod place;
 
 ghost use mathlib.Core.Path.{_≡_};
 ghost use mathlib.Core.Bool.{false};
 ghost use Rattle.totals.specs.Column.{noColumn, passes, columnWith};
+use limit::passes_at;
 use place::larger;
-use place::passes_at;
 use place::which;
 
 // A file's 29 figures.

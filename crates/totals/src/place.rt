@@ -1,13 +1,6 @@
-// One figure of one column: whether its total fits, and which file has the largest.
+// One figure of one column: the largest so far, and which file has it.
 ghost use mathlib.Core.Path.{_≡_};
-ghost use Rattle.totals.specs.Place.{passesAt, takes, largerAt, fileAt};
-
-// Asked by a difference, since the total itself may not fit.
-pub fn passes_at(sum: u64, x: u64) -> bool
-    ensures { λ r. ⌜ r ≡ passesAt sum x ⌝ }
-{
-    18446744073709551615 - sum < x
-}
+ghost use Rattle.totals.specs.Place.{takes, largerAt, fileAt};
 
 // The first file takes every place, so that with all files at 0 the first has the largest.
 fn taken(file: u64, most: u64, x: u64) -> bool

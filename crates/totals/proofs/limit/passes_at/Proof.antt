@@ -1,7 +1,7 @@
 use native.Mathlib.Omega.{arith}
 use borrow.Author.Needs.{needs}
-use Rattle.totals.proofs.{Passing.by-difference, place.passes_at.Statement.statement}
-use Rattle.totals.proofs.place.passes_at.Tie as tie
+use Rattle.totals.proofs.{Passing.by-difference, limit.passes_at.Statement.statement}
+use Rattle.totals.proofs.limit.passes_at.Tie as tie
 
 returns : tie.Need-returns
 returns c = by-difference 18446744073709551615 (c .args .sum) (c .args .x) (omega arith)

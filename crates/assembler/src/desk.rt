@@ -8,7 +8,7 @@ use reader::draft::Draft;
 use reader::reader::{Reader, read, start};
 
 // The reader and the places behind the last byte of each buffer.
-#[derive(Drop)]
+#[derive(Clone, Copy)]
 pub struct Desk {
     pub reader: Reader,
     pub front: usize,

@@ -13,7 +13,7 @@ use state::Machine;
 use wram::sum::sum_after;
 
 // `number` is 0 where the call was accepted, else document 01's refusal.
-#[derive(Drop)]
+#[derive(Clone, Copy)]
 pub struct CycleAnswer {
     pub number: u8,
     pub bench: Bench,
@@ -22,7 +22,7 @@ pub struct CycleAnswer {
     pub log: Log,
 }
 
-#[derive(Drop)]
+#[derive(Clone, Copy)]
 pub struct ReadAnswer {
     pub number: u8,
     pub bench: Bench,
@@ -30,14 +30,14 @@ pub struct ReadAnswer {
     pub cost: u8,
 }
 
-#[derive(Drop)]
+#[derive(Clone, Copy)]
 pub struct WriteAnswer {
     pub number: u8,
     pub bench: Bench,
     pub cost: u8,
 }
 
-#[derive(Drop)]
+#[derive(Clone, Copy)]
 pub struct Answer {
     pub number: u8,
     pub bench: Bench,

@@ -5,7 +5,7 @@ ghost use Rattle.benchfile.specs.Row.{zeros, formed_row, fields_of, row_of, row_
 use fields::part::part;
 use fields::word::{byte, two};
 
-#[derive(Drop)]
+#[derive(Clone, Copy)]
 pub enum Row {
     // `count` cycles; event and flags hold for the first.
     Cycles {

@@ -10,7 +10,7 @@ use registers::wm_address::inc;
 use wram::Olds;
 
 // `write` or a read, of `bank`:`addr`.
-#[derive(Drop)]
+#[derive(Clone, Copy)]
 pub struct Access {
     pub write: bool,
     pub bank: u8,
@@ -18,21 +18,21 @@ pub struct Access {
     pub byte: u8,
 }
 
-#[derive(Drop)]
+#[derive(Clone, Copy)]
 pub struct Log {
     pub count: u8,
     pub items: [Access; 11],
 }
 
 // The registers with what this operation did on the bus.
-#[derive(Drop)]
+#[derive(Clone, Copy)]
 pub struct Core {
     pub io: Io,
     pub log: Log,
     pub olds: Olds,
 }
 
-#[derive(Drop)]
+#[derive(Clone, Copy)]
 pub struct BusRead {
     pub core: Core,
     pub byte: u8,

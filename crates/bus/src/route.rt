@@ -5,7 +5,7 @@ ghost use Rattle.bus.specs.Route.{system_route, route_of, place_of, memory};
 use registers::wm_address::{WmAddBank, WmAddress};
 use wram::Place;
 
-#[derive(Drop)]
+#[derive(Clone, Copy)]
 pub enum Route {
     Bank7E,
     Bank7F,

@@ -1,4 +1,5 @@
 // Carries out the listed calls on standard input and prints what each answers, a line a call (docs/CALLS.md).
+#![tactic(auto)]
 use fields::part::part;
 use libc::STDOUT_FILENO;
 use listed::answer::LINE;

@@ -1,5 +1,6 @@
 // The cartridge: a lent ROM that answers from $8000 up (document 01, "Added by the port"), and repeats where its length is a power of two of
 // at least 32,768 (document 02, 1/12).
+#![tactic(auto)]
 ghost use Rattle.std.specs.Prelude.{◌≡◌};
 ghost use Rattle.cartridge.specs.Cartridge.{rom_offset, rom_place, rom_byte, rom_cost};
 

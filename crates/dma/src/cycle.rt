@@ -40,7 +40,7 @@ fn due(d: Dma) -> bool
     d.pending & (d.wait == 0)
 }
 
-#[derive(Drop)]
+#[derive(Clone, Copy)]
 pub struct Cycled {
     pub after: DmaCore,
     pub held: bool,

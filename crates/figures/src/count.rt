@@ -6,7 +6,7 @@ use tally::file::count_file;
 use totals::Figures;
 
 // The refusal of the file or of the row that ended it, and that row's number, or 0; the figures of all operations, and of the survivors.
-#[derive(Drop)]
+#[derive(Clone, Copy)]
 pub struct Counted {
     pub number: u8,
     pub row: usize,

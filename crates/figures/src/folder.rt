@@ -10,7 +10,7 @@ use totals::Figures;
 use totals::folder::{Folder, add, none};
 
 // Whether each file could be read; the folder; and the refusal of the file `next`, or 0.
-#[derive(Drop)]
+#[derive(Clone, Copy)]
 pub struct Folded {
     pub ok: bool,
     pub folder: Folder,
@@ -18,7 +18,7 @@ pub struct Folded {
     pub number: u8,
 }
 
-#[derive(Drop)]
+#[derive(Clone, Copy)]
 struct Next {
     ok: bool,
     counted: Counted,

@@ -1,4 +1,5 @@
 // What each channel moved in the bench files that the arguments name: a line for each file, and the table of the folder.
+#![tactic(auto)]
 mod count;
 mod folder;
 mod lines;

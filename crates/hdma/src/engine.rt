@@ -5,7 +5,7 @@ ghost use Rattle.hdma.specs.Engine.{hdma_at, set_hdma, with_state, with_progress
 use bus::access::Core;
 use state::{Dma, DmaProgress, DmaState, HdmaChannelState};
 
-#[derive(Drop)]
+#[derive(Clone, Copy)]
 pub struct DmaCore {
     pub core: Core,
     pub dma: Dma,

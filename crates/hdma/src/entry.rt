@@ -10,7 +10,7 @@ use transfer::bits::{dec8, flag};
 use transfer::table::{load_das, read_table};
 
 // `wait` is the cost so far less one; `stop` says that the table ended.
-#[derive(Drop)]
+#[derive(Clone, Copy)]
 pub struct Reload {
     pub after: DmaCore,
     pub wait: u8,

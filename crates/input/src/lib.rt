@@ -1,4 +1,5 @@
 // What a program is given: its input, read to its end, the files and the place that its arguments name; and what is wrong with them.
+#![tactic(auto)]
 pub mod complaint;
 
 use complaint::{no_place, unread, unread_file};
@@ -7,7 +8,7 @@ use fields::part::part;
 use libc::{ENAMETOOLONG, STDIN_FILENO};
 
 // How many bytes came, and whether every read succeeded.
-#[derive(Drop)]
+#[derive(Clone, Copy)]
 pub struct Got {
     pub n: usize,
     pub ok: bool,

@@ -1,4 +1,5 @@
 // Turns the bench file on standard input into text on standard output.
+#![tactic(auto)]
 fn main() {
     textual::list();
 }

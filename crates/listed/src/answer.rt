@@ -15,7 +15,7 @@ use layout::{ENTRY_SIZE, IMAGE_SIZE};
 pub const LINE: usize = 16384;
 
 // The number got; whether all stayed as it was, and the call said nothing else; the line's length.
-#[derive(Drop)]
+#[derive(Clone, Copy)]
 pub struct Told {
     pub number: u8,
     pub still: bool,

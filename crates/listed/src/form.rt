@@ -20,7 +20,7 @@ pub const PATCHES: usize = FILL + 17;
 pub const HEAD: usize = PATCHES + 32;
 
 // The lengths lent, and the call.
-#[derive(Drop)]
+#[derive(Clone, Copy)]
 pub struct Listed {
     pub record: usize,
     pub low: usize,

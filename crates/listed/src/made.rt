@@ -14,7 +14,7 @@ use script::repeat::Ran;
 use script::row::run_row;
 
 // Number, held, edge, byte and cost; the machine's bytes after the call; its accesses.
-#[derive(Drop)]
+#[derive(Clone, Copy)]
 pub struct Made {
     pub numbers: [u8; 5],
     pub after: [u8; MACHINE_SIZE],

@@ -10,7 +10,7 @@ use touch::reach::Reach;
 use touch::who::Who;
 
 // Where a line stands and who it is about; `only` is the one byte of work RAM that is looked at, 131,072 for all of them.
-#[derive(Drop)]
+#[derive(Clone, Copy)]
 pub struct Line {
     pub row: u64,
     pub clock: u64,

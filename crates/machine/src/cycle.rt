@@ -11,7 +11,7 @@ use signals::flags::nmi_line;
 use state::{Board, Dma, Machine};
 
 // What a cycle leaves: `core` has the registers, the accesses and the bytes overwritten.
-#[derive(Drop)]
+#[derive(Clone, Copy)]
 pub struct Turn {
     pub core: Core,
     pub dma: Dma,

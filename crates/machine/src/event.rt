@@ -7,7 +7,7 @@ use registers::write::irq_disabled;
 use signals::auto_joypad::{start_auto_joypad, step_auto_joypad};
 use signals::flags::{set_hblank, set_nmi_flag, set_timeup_flag, set_vblank};
 
-#[derive(Drop)]
+#[derive(Clone, Copy)]
 pub enum Event {
     Nothing,
     HBlankStart,

@@ -1,4 +1,5 @@
 // Lists every move of the bench file on standard input, or those of one byte of work RAM: a line for each access as it goes.
+#![tactic(auto)]
 mod lines;
 mod origin;
 mod steps;

@@ -10,7 +10,7 @@ use walk::stand::Stand;
 use walk::step::next_call;
 
 // The bench, where the script stands, the refusal of the last call or 0, and how many bytes of the buffer are text.
-#[derive(Drop)]
+#[derive(Clone, Copy)]
 pub struct Run {
     pub bench: Bench,
     pub stand: Stand,

@@ -1,4 +1,5 @@
 // Writes the page of work RAM that holds a place, after the bench file on standard input.
+#![tactic(auto)]
 use bench::page::page_look;
 use dump::page::dump_page;
 use fields::part::part;

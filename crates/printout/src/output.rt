@@ -14,7 +14,7 @@ pub fn write_text(out: &[u8], used: usize) -> bool {
 }
 
 // Whether all could be written; how many rows were run, and the refusal of the last one, or 0. A file that cannot be run has no row.
-#[derive(Drop)]
+#[derive(Clone, Copy)]
 pub struct Written {
     pub ok: bool,
     pub rows: usize,

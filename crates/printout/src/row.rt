@@ -12,7 +12,7 @@ use script::row::run_row;
 use wording::line::{append_line, append_sum};
 
 // What is shown of a row.
-#[derive(Drop)]
+#[derive(Clone, Copy)]
 pub enum Show {
     Nothing,
     Line,
@@ -20,7 +20,7 @@ pub enum Show {
 }
 
 // What a row has come to, and how many bytes of the buffer are text with what is shown of it.
-#[derive(Drop)]
+#[derive(Clone, Copy)]
 pub struct Lined {
     pub ran: Ran,
     pub used: usize,

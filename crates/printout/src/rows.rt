@@ -8,7 +8,7 @@ use fields::part::part;
 use ring::Bench;
 
 // Where a script stands: the row to run next, from 0; the refusal of the last one, or 0; how many bytes of the buffer are text.
-#[derive(Drop)]
+#[derive(Clone, Copy)]
 pub struct Stand {
     pub bench: Bench,
     pub next: usize,

@@ -8,7 +8,7 @@ ghost use Rattle.reader.specs.Draft.{failed_of, opens_of, keyword_of, option_of,
 // bytes of a fill, 14 name, 15 count of back, 16 address of a write, 17 port of a plug, 18 the line's end, 19 more bytes of a ROM.
 // Emit, what the last character completed: 0 nothing, 1 byte b1 of the fill, 2 settings, 3 row, 4 the ROM file, 5 byte b1 of the ROM,
 // 9 it failed.
-#[derive(Drop)]
+#[derive(Clone, Copy)]
 pub struct Draft {
     pub phase: u8,
     pub state: u8,
@@ -31,7 +31,7 @@ pub fn failed(d: Draft) -> Draft
 
 // What a word opens: the kind of its line, what is expected first, the phases from which and up to which it may come, and the phase
 // that it opens. Settings stand first, then the fill, the ROM and the rows.
-#[derive(Drop)]
+#[derive(Clone, Copy)]
 struct Opening(u8, u8, u8, u8, u8);
 
 // The word that starts a line, as a number in base 36: cycles, read, write, pad, plug, answer, back, bitcycles, fill, rom. No other

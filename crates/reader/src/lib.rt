@@ -1,4 +1,5 @@
 // The text form of a bench file, read one character at a time (docs/BENCH.md).
+#![tactic(auto)]
 pub mod draft;
 pub mod letter;
 pub mod line;

@@ -6,7 +6,7 @@ use crate::draft::{Draft, failed, file, keyword, option, switch};
 
 // A number's place, by what is expected: its least and its largest value, what is expected behind it, which of its bytes go to b1, b2,
 // b3 and b4 (1 the lowest; 0: it stays as it was), and what it completes.
-#[derive(Drop)]
+#[derive(Clone, Copy)]
 struct Place(u64, u64, u8, u8, u8, u8, u8, u8);
 
 // Bytes of a fill or a ROM are complete as they come. Where no number is expected, the least is over the largest.

@@ -7,7 +7,7 @@ use crate::letter::{digit, sign};
 use crate::line::{line_end, taken};
 use crate::word::{Word, blank, colon, dollar, letter, sort, worth};
 
-#[derive(Drop)]
+#[derive(Clone, Copy)]
 pub struct Reader {
     pub word: Word,
     pub draft: Draft,

@@ -4,7 +4,7 @@ ghost use Rattle.reader.specs.Word.{blank_word, base_of, after_of, opened_of, gr
 
 // Forms: 0 between words, 1 letters, 2 `$`, 3 `$` and digits, 4 `:` behind these, 5 digits behind it, 6 decimal digits,
 // 7 comment, 8 file name, 9 no word at all. Letters count in base 36, so that a word's value names it.
-#[derive(Drop)]
+#[derive(Clone, Copy)]
 pub struct Word {
     pub form: u8,
     pub value: u64,

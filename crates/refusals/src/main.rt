@@ -1,5 +1,6 @@
 // Makes the tries on standard input (docs/REFUSALS.md) and says of each the number got, and whether the machine and every byte lent, or the
 // figures, stayed as they were. A try is its kind and the length of its words; the words, which begin its line; then what is given.
+#![tactic(auto)]
 mod figures;
 mod file;
 mod look;

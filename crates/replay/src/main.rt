@@ -1,4 +1,5 @@
 // Replays the list of bench files on standard input: each stands behind its length in 4 bytes, and gets a line `file N` before its own.
+#![tactic(auto)]
 use append::number::decimal;
 use append::{push_byte, put};
 use fields::part::part;

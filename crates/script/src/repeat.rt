@@ -8,7 +8,7 @@ use bench::operate::cycle;
 use ring::Bench;
 
 // What a row has come to: the refusal or 0, and its two numbers A and B.
-#[derive(Drop)]
+#[derive(Clone, Copy)]
 pub struct Ran {
     pub number: u8,
     pub a: u32,

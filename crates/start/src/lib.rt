@@ -1,4 +1,5 @@
 // A bench file before its first row: its check, the RAM fill, a fresh bench, and where its ROM and its script are.
+#![tactic(auto)]
 pub mod fill;
 
 ghost use Rattle.std.specs.Prelude.{◌≡◌};
@@ -12,14 +13,14 @@ use fill::fill_bank;
 use ring::Bench;
 
 // A part of the file: where it starts, and its length.
-#[derive(Drop)]
+#[derive(Clone, Copy)]
 pub struct Span {
     pub at: usize,
     pub size: usize,
 }
 
 // The refusal of a file that cannot be run, or 0; the bench to run it on; its ROM and its script, empty where it is refused.
-#[derive(Drop)]
+#[derive(Clone, Copy)]
 pub struct Started {
     pub number: u8,
     pub bench: Bench,

@@ -1,4 +1,5 @@
 // Prints the sum of work RAM after each row of the bench file on standard input.
+#![tactic(auto)]
 use fields::part::part;
 use input::complaint::refused;
 use input::read_bench;

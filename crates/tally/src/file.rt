@@ -7,7 +7,7 @@ use fields::part::part;
 use start::begin;
 
 // The refusal of the file or of the row that ended it, and that row's number; 0 where there is none.
-#[derive(Drop)]
+#[derive(Clone, Copy)]
 pub struct Ran {
     pub number: u8,
     pub row: usize,

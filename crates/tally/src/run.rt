@@ -14,7 +14,7 @@ use touch::who::who_of;
 use walk::call::call;
 
 // The bench, the refusal of the last call or 0, how many rows have begun, and a row behind which no row has a surviving operation.
-#[derive(Drop)]
+#[derive(Clone, Copy)]
 pub struct Tally {
     pub bench: Bench,
     pub number: u8,

@@ -10,7 +10,7 @@ use state::DmaState;
 use touch::who::Who;
 
 // The channel that had the bus, with its general bytes, units and table bytes; the number of the DMA state after, and 1 where held.
-#[derive(Drop)]
+#[derive(Clone, Copy)]
 pub struct Share {
     pub channel: u64,
     pub general: u64,

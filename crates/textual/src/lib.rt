@@ -1,4 +1,5 @@
 // The programs assemble and list: read, call, write. What is wrong goes to standard error in one line, and nothing to standard output.
+#![tactic(auto)]
 pub mod mark;
 pub mod message;
 pub mod name;

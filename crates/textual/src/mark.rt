@@ -6,7 +6,7 @@ ghost use Rattle.textual.specs.Mark.{wanted_of, marked, marks_of};
 use reader::letter::sign;
 
 // The number that the next of them would have, where the first stands, and the place behind the last.
-#[derive(Drop)]
+#[derive(Clone, Copy)]
 pub struct Marks {
     pub next: u64,
     pub first: usize,

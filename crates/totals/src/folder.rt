@@ -5,7 +5,7 @@ ghost use Rattle.totals.specs.Folder.{no_files, folder_number, add_call};
 use crate::{Column, Figures, empty, too_much, with_file};
 
 // How many files there are so far, and their figures: of all operations, and of the survivors.
-#[derive(Drop)]
+#[derive(Clone, Copy)]
 pub struct Folder {
     pub files: u64,
     pub all: Column,
@@ -13,7 +13,7 @@ pub struct Folder {
 }
 
 // The refusal, or 0; and the folder, which a refused call leaves as it was.
-#[derive(Drop)]
+#[derive(Clone, Copy)]
 pub struct Added {
     pub number: u8,
     pub folder: Folder,

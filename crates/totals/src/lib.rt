@@ -1,4 +1,5 @@
 // The figures of a folder: 29 of each file, added up file by file in a column, with the largest of each and the file that has it.
+#![tactic(auto)]
 pub mod folder;
 pub mod limit;
 pub mod mean;
@@ -11,13 +12,13 @@ use limit::passes_at;
 use place::{larger, which};
 
 // A file's 29 figures.
-#[derive(Drop)]
+#[derive(Clone, Copy)]
 pub struct Figures {
     pub counts: [u64; 29],
 }
 
 // Of each figure the sum over the files so far, the largest, and the number of the file that has it.
-#[derive(Drop)]
+#[derive(Clone, Copy)]
 pub struct Column {
     pub sum: [u64; 29],
     pub most: [u64; 29],

@@ -10,7 +10,7 @@ use registers::wm_address::{WmAddress, bank_from, inc};
 use wram::Place;
 
 // `spot` is the byte's offset in work RAM, 131,072 for none; `after` is WMADD after the access.
-#[derive(Drop)]
+#[derive(Clone, Copy)]
 pub struct Reach {
     pub spot: u32,
     pub own: bool,

@@ -6,7 +6,7 @@ use registers::Io;
 use state::{Dma, DmaProgress, DmaState, Machine};
 use transfer::bits::lowest_bit;
 
-#[derive(Drop)]
+#[derive(Clone, Copy)]
 pub enum Who {
     Cpu,
     Dma { channel: u8 },

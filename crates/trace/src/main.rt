@@ -1,4 +1,5 @@
 // Prints document 01's lines of the bench file on standard input.
+#![tactic(auto)]
 use fields::part::part;
 use input::read_bench;
 use libc::STDERR_FILENO;

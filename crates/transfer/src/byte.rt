@@ -10,7 +10,7 @@ use bus::view::{channel_of, with_channel};
 use common::snes_address::SnesAddress;
 
 // Where a byte comes from and goes to.
-#[derive(Drop)]
+#[derive(Clone, Copy)]
 pub struct Trip {
     pub source: SnesAddress,
     pub target: SnesAddress,

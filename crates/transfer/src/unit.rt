@@ -86,7 +86,7 @@ fn store_source(core: Core, ch: u8, indirect: bool, addr: u16) -> Core
     with_channel(core, ch, c)
 }
 
-#[derive(Drop)]
+#[derive(Clone, Copy)]
 pub struct Sent {
     pub core: Core,
     pub bytes: u8,

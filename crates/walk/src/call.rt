@@ -13,7 +13,7 @@ use script::row::run_row;
 
 // What a call answers: the refusal or 0; a read's byte and an access's cost; a cycle's held, NMI edge and accesses. `back` is set for a
 // back step; `count` is how many calls the row is.
-#[derive(Drop)]
+#[derive(Clone, Copy)]
 pub struct Answer {
     pub number: u8,
     pub byte: u32,
@@ -26,7 +26,7 @@ pub struct Answer {
 }
 
 // With the bench that it leaves.
-#[derive(Drop)]
+#[derive(Clone, Copy)]
 pub struct Called {
     pub answer: Answer,
     pub bench: Bench,

@@ -3,7 +3,7 @@ ghost use Rattle.std.specs.Prelude.{◌≡◌};
 ghost use Rattle.walk.specs.Stand.{up, onward, counted};
 
 // The row to run next, from 0; how many of its calls were accepted, and how many of those were held.
-#[derive(Drop)]
+#[derive(Clone, Copy)]
 pub struct Stand {
     pub next: usize,
     pub done: u16,

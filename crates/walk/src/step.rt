@@ -9,7 +9,7 @@ use benchfile::row::{Row, row_at};
 use ring::Bench;
 
 // A call made: its row, what it answered and left, where the script stands with it counted, and where it goes on.
-#[derive(Drop)]
+#[derive(Clone, Copy)]
 pub struct Step {
     pub says: Row,
     pub made: Called,

@@ -67,7 +67,7 @@ fn only_if(on: bool, value: u8) -> u8
 }
 
 // The bytes that stand at the places written, and those that stood there before the operation, each place once.
-#[derive(Drop)]
+#[derive(Clone, Copy)]
 struct Change {
     stands: u32,
     stood: u32,

@@ -15,6 +15,7 @@ pub enum Route {
 }
 
 // In banks $00-$3F and $80-$BF. $2180 reaches work RAM through the registers.
+#[tactic(auto, unfolding(crate::specs::Route::system_route))]
 fn system_route(addr: u16) -> Route
     ensures { result ≡ system_route addr }
 {
@@ -26,6 +27,7 @@ fn system_route(addr: u16) -> Route
     }
 }
 
+#[tactic(auto, unfolding(crate::specs::Route::route_of))]
 pub fn route_of(bank: u8, addr: u16) -> Route
     ensures { result ≡ route_of bank addr }
 {

@@ -1,6 +1,7 @@
 // The cartridge: a lent ROM that answers from $8000 up (document 01, "Added by the port"), and repeats where its length is a power of two of
 // at least 32,768 (document 02, 1/12).
 #![tactic(auto)]
+
 ghost use Rattle.std.specs.Prelude.{◌≡◌};
 ghost use Rattle.cartridge.specs.Cartridge.{rom_offset, rom_place, rom_byte, rom_cost};
 
@@ -15,6 +16,7 @@ fn offset(bank: u8, addr: u16) -> usize
 }
 
 // Where an offset lies in a ROM of `len` bytes. Each remainder is by a constant, so that no division is made.
+#[tactic(auto, unfolding(crate::specs::Cartridge::rom_place))]
 fn place(len: usize, at: usize) -> usize
     ensures { result ≡ rom_place len at }
 {

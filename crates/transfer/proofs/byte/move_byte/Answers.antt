@@ -1,0 +1,6 @@
+use Rattle.transfer.proofs.{Join.moved_by}
+use Rattle.std.proofs.Common.{rules}
+use Rattle.transfer.proofs.byte.move_byte.Goals as goal
+
+pub returns : goal.returns
+returns c = moved_by _ _ _ c.read-r.ensures c.write.ensures

@@ -1,0 +1,10 @@
+use Rattle.std.proofs.Common.{refl, rules}
+use Rattle.wram.specs.Banks.{banks}
+use Rattle.wram.proofs.Undo.{Going, going_start, going_next, going_end}
+use Rattle.wram.proofs.put_back.Given as goal
+
+abbrev pub invariant-loop-n : goal.invariant-loop-n
+invariant-loop-n l = Going l.olds (banks l.initial.low l.initial.high) (banks l.low l.high) l.n
+
+abbrev pub decreases-loop-n : goal.decreases-loop-n
+decreases-loop-n l = l.n

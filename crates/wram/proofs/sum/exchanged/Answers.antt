@@ -1,0 +1,12 @@
+use Rattle.std.proofs.Common.{◌-◌, refl, arith, rules}
+use Rattle.wram.specs.Banks.{banks}
+use Rattle.wram.proofs.SumLaws.{Exchanged, exchanged-none, exchanged-next, exchanged-all}
+use Rattle.wram.proofs.sum.exchanged.Goals as goal
+
+pub loop-i-init : goal.loop-i-init
+loop-i-init c = exchanged-none _ _ _ (omega (arith, c.stored-n.ensures))
+
+pub loop-i-preserved : goal.loop-i-preserved
+loop-i-preserved c =
+    exchanged-next _ _ _ _ _ _ c.loop-i.invariant c.loop-i-test.true refl c.place_of-place.ensures c.first_there.ensures
+    c.inside.ensures c.peek.ensures c.only_if.ensures c.only_if-in-loop-i.ensures c.only_if.type_inv c.only_if-in-loop-i.type_inv

@@ -1,5 +1,6 @@
 // Bytes put one after the other into a lent buffer. Where it has no more room, bytes are dropped and the place stays at its end.
 #![tactic(auto)]
+
 pub mod number;
 
 ghost use Rattle.std.specs.Prelude.{◌+◌, ◌≡◌, leb};

@@ -1,5 +1,6 @@
 // What is printed by row: the line of a trace and of the sums, and the refusals in words.
 #![tactic(auto)]
+
 pub mod line;
 
 ghost use Rattle.std.specs.Prelude.{◌≡◌};

@@ -1,5 +1,6 @@
 // The figures of a folder: 29 of each file, added up file by file in a column, with the largest of each and the file that has it.
 #![tactic(auto)]
+
 pub mod folder;
 pub mod limit;
 pub mod mean;

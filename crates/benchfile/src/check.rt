@@ -15,6 +15,7 @@ fn adjoins(file: &[u8], section: u8, next: u8) -> bool
 }
 
 // The bodies follow from 32 without gap, in order, to the end.
+#[tactic(auto, unfolding(crate::specs::File::chained))]
 fn in_order(file: &[u8]) -> bool
     ensures { result ≡ chained file.now }
 {
@@ -28,6 +29,7 @@ fn in_order(file: &[u8]) -> bool
 }
 
 // Settings are 2 bytes, the fill 1 to 4,096.
+#[tactic(auto, unfolding(crate::specs::File::sized))]
 fn right_sizes(file: &[u8]) -> bool
     ensures { result ≡ sized file.now }
 {
@@ -55,6 +57,7 @@ fn rows_formed(script: &[u8]) -> bool
     true
 }
 
+#[tactic(auto, unfolding(crate::specs::File::sound))]
 fn is_sound(file: &[u8]) -> bool
     ensures { result ≡ sound file.now }
 {

@@ -5,12 +5,14 @@ ghost use Rattle.benchfile.specs.File.{start_of, size_of, end_of, body_of};
 use fields::part::part;
 use fields::word::four;
 
+#[tactic(auto, unfolding(crate::specs::File::start_of))]
 pub fn start(file: &[u8], section: u8) -> u32
     ensures { result ≡ start_of file.now section }
 {
     four(file, section as usize * 8)
 }
 
+#[tactic(auto, unfolding(crate::specs::File::size_of))]
 pub fn size(file: &[u8], section: u8) -> u32
     ensures { result ≡ size_of file.now section }
 {
@@ -27,6 +29,7 @@ pub fn end(file: &[u8], section: u8) -> u64
 }
 
 // The part of the file that a row of the contents names.
+#[tactic(auto, unfolding(crate::specs::File::body_of))]
 pub fn body(file: &[u8], section: u8) -> &[u8]
     ensures { result.now ≡ body_of file.now section }
 {

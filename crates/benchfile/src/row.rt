@@ -57,6 +57,7 @@ fn zero_from(row: &[u8], at: usize) -> bool
 }
 
 // The form of a row, by its kind.
+#[tactic(auto, unfolding(crate::specs::Row::formed_row))]
 pub fn formed(row: &[u8]) -> bool
     ensures { result ≡ formed_row row.now }
 {
@@ -77,6 +78,7 @@ pub fn formed(row: &[u8]) -> bool
 }
 
 // What a well-formed row says, by its kind.
+#[tactic(auto, unfolding(crate::specs::Row::fields_of))]
 fn fields(row: &[u8]) -> Row
     ensures { result ≡ fields_of row.now }
 {

@@ -54,6 +54,7 @@ fn opens(v: u64) -> Opening
     }
 }
 
+#[tactic(auto, unfolding(crate::specs::Draft::keyword_of))]
 pub fn keyword(d: Draft, v: u64) -> Draft
     ensures { result ≡ keyword_of d v }
 {
@@ -74,6 +75,7 @@ pub fn keyword(d: Draft, v: u64) -> Draft
 }
 
 // event, line and timer, in any order.
+#[tactic(auto, unfolding(crate::specs::Draft::option_of))]
 pub fn option(d: Draft, v: u64) -> Draft
     ensures { result ≡ option_of d v }
 {
@@ -96,6 +98,7 @@ pub fn option(d: Draft, v: u64) -> Draft
 }
 
 // on, off
+#[tactic(auto, unfolding(crate::specs::Draft::switch_of))]
 pub fn switch(d: Draft, v: u64) -> Draft
     ensures { result ≡ switch_of d v }
 {
@@ -113,6 +116,7 @@ pub fn switch(d: Draft, v: u64) -> Draft
 }
 
 // file; no ROM line may follow it
+#[tactic(auto, unfolding(crate::specs::Draft::file_of))]
 pub fn file(d: Draft, v: u64) -> Draft
     ensures { result ≡ file_of d v }
 {

@@ -3,6 +3,7 @@ ghost use Rattle.std.specs.Prelude.{◌≡◌};
 ghost use Rattle.reader.specs.Letter.{sign_of, digit_of};
 
 // 1 ends a line, 2 starts a comment, 3 parts words, 4 and 5 stand in numbers, 0 is any other character.
+#[tactic(auto, unfolding(crate::specs::Letter::sign_of))]
 pub fn sign(c: u8) -> u8
     ensures { result ≡ sign_of c }
 {
@@ -21,6 +22,7 @@ pub fn sign(c: u8) -> u8
 }
 
 // 0 to 9, then letters from 10 on, small and large alike; 36 for any other character.
+#[tactic(auto, unfolding(crate::specs::Letter::digit_of))]
 pub fn digit(c: u8) -> u8
     ensures { result ≡ digit_of c }
 {

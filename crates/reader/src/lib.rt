@@ -1,5 +1,6 @@
 // The text form of a bench file, read one character at a time (docs/BENCH.md).
 #![tactic(auto)]
+
 pub mod draft;
 pub mod letter;
 pub mod line;

@@ -44,6 +44,7 @@ fn byte(which: u8, old: u8, v: u64) -> u8
     }
 }
 
+#[tactic(auto, unfolding(crate::specs::Line::number_of))]
 fn number(d: Draft, v: u64) -> Draft
     ensures { result ≡ number_of d v }
 {
@@ -67,6 +68,7 @@ fn number(d: Draft, v: u64) -> Draft
     failed(d)
 }
 
+#[tactic(auto, unfolding(crate::specs::Line::named_of))]
 fn named(d: Draft, v: u64) -> Draft
     ensures { result ≡ named_of d v }
 {
@@ -86,6 +88,7 @@ fn named(d: Draft, v: u64) -> Draft
 }
 
 // A whole word: its sort (1 letters, 2 a number) and value.
+#[tactic(auto, unfolding(crate::specs::Line::taken_of))]
 pub fn taken(d: Draft, sort: u8, v: u64) -> Draft
     ensures { result ≡ taken_of d sort v }
 {
@@ -118,6 +121,7 @@ fn ends(state: u8) -> bool
     (state == 2) | (state == 13) | (state == 18) | (state == 19)
 }
 
+#[tactic(auto, unfolding(crate::specs::Line::closing_of))]
 fn closing(d: Draft) -> Draft
     ensures { result ≡ closing_of d }
 {
@@ -132,6 +136,7 @@ fn closing(d: Draft) -> Draft
 }
 
 // An empty line is nothing.
+#[tactic(auto, unfolding(crate::specs::Line::line_of))]
 pub fn line_end(d: Draft) -> Draft
     ensures { result ≡ line_of d }
 {

@@ -52,6 +52,7 @@ fn idle(form: u8) -> bool
 }
 
 // The draft when the word ends.
+#[tactic(auto, unfolding(crate::specs::Reader::shut_of))]
 fn shut(w: Word, d: Draft) -> Draft
     ensures { result ≡ shut_of w d }
 {
@@ -73,6 +74,7 @@ fn gap(state: u8) -> u8
 }
 
 // Behind `file` all up to the line's end or a comment is the name.
+#[tactic(auto, unfolding(crate::specs::Reader::spaced_of))]
 fn spaced(w: Word, d: Draft) -> Reader
     ensures { result ≡ spaced_of w d }
 {
@@ -86,6 +88,7 @@ fn spaced(w: Word, d: Draft) -> Reader
 }
 
 // A character of a file name.
+#[tactic(auto, unfolding(crate::specs::Reader::naming_of))]
 fn naming(w: Word, d: Draft, s: u8) -> Reader
     ensures { result ≡ naming_of w d s }
 {
@@ -107,6 +110,7 @@ fn naming(w: Word, d: Draft, s: u8) -> Reader
 }
 
 // A character of a word or a number.
+#[tactic(auto, unfolding(crate::specs::Reader::plain_of))]
 fn plain(w: Word, s: u8, c: u8) -> Word
     ensures { result ≡ plain_of w s c }
 {
@@ -121,6 +125,7 @@ fn plain(w: Word, s: u8, c: u8) -> Word
 }
 
 // A character of sign s, where nothing has failed.
+#[tactic(auto, unfolding(crate::specs::Reader::step_of))]
 fn step(w: Word, d: Draft, s: u8, c: u8) -> Reader
     ensures { result ≡ step_of w d s c }
 {
@@ -158,6 +163,7 @@ fn step(w: Word, d: Draft, s: u8, c: u8) -> Reader
 }
 
 // One character more; after a failure nothing changes.
+#[tactic(auto, unfolding(crate::specs::Reader::read_of))]
 pub fn read(r: Reader, c: u8) -> Reader
     ensures { result ≡ read_of r c }
 {

@@ -63,6 +63,7 @@ fn grown(value: u64, base: u8, d: u8) -> u64
 }
 
 // A digit or letter of value d.
+#[tactic(auto, unfolding(crate::specs::Word::letter_of))]
 pub fn letter(w: Word, d: u8) -> Word
     ensures { result ≡ letter_of w d }
 {
@@ -81,6 +82,7 @@ pub fn letter(w: Word, d: u8) -> Word
 }
 
 // `$` stands in front of a number.
+#[tactic(auto, unfolding(crate::specs::Word::dollar_of))]
 pub fn dollar(w: Word) -> Word
     ensures { result ≡ dollar_of w }
 {
@@ -88,6 +90,7 @@ pub fn dollar(w: Word) -> Word
 }
 
 // `:` stands between bank and address.
+#[tactic(auto, unfolding(crate::specs::Word::colon_of))]
 pub fn colon(w: Word) -> Word
     ensures { result ≡ colon_of w }
 {
@@ -115,6 +118,7 @@ pub fn sort(form: u8) -> u8
 }
 
 // The number of a word; $100:0000 and $00:10000 are too large for any place.
+#[tactic(auto, unfolding(crate::specs::Word::worth_of))]
 pub fn worth(w: Word) -> u64
     ensures { result ≡ worth_of w }
 {

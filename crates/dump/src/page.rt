@@ -8,6 +8,7 @@ use append::{push_byte, put};
 use fields::part::part;
 
 // A printable character as it is, any other byte as a dot.
+#[tactic(auto, unfolding(crate::specs::Page::ascii_of))]
 fn ascii(x: u8) -> u8
     ensures { result ≡ ascii_of x }
 {

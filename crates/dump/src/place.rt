@@ -7,6 +7,7 @@ use fields::word::byte;
 use reader::letter::digit;
 
 // The number of two digits in base 16; 256 where one of them is none.
+#[tactic(auto, unfolding(crate::specs::Place::pair_of))]
 fn pair(a: u8, b: u8) -> u16
     ensures { result ≡ pair_of a b }
 {
@@ -22,6 +23,7 @@ fn pair(a: u8, b: u8) -> u16
 }
 
 // The offset of an address in work RAM; 131,072 where it is no such address.
+#[tactic(auto, unfolding(crate::specs::Place::offset_of))]
 fn offset(bank: u16, high: u16, low: u16) -> u32
     ensures { result ≡ offset_of bank high low }
 {
@@ -41,6 +43,7 @@ fn offset(bank: u16, high: u16, low: u16) -> u32
 }
 
 // Two digits of the bank, and four from place k on.
+#[tactic(auto, unfolding(crate::specs::Place::six_of))]
 fn six(s: &[u8], k: u8) -> u32
     ensures { result ≡ six_of s.now k }
 {
@@ -52,6 +55,7 @@ fn six(s: &[u8], k: u8) -> u32
 }
 
 // Six digits, or seven characters with a colon behind the bank.
+#[tactic(auto, unfolding(crate::specs::Place::bare_of))]
 fn bare(s: &[u8]) -> u32
     ensures { result ≡ bare_of s.now }
 {
@@ -67,6 +71,7 @@ fn bare(s: &[u8]) -> u32
 }
 
 // The offset that the text names, under 131,072; 131,072 where it names none.
+#[tactic(auto, unfolding(crate::specs::Place::offset_named))]
 pub fn place(s: &[u8]) -> u32
     ensures { result ≡ offset_named s.now }
 {

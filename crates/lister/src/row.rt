@@ -112,6 +112,7 @@ fn event(out: &mut [u8], at: usize, number: u8) -> usize
 }
 
 // 1 line due, 2 timer.
+#[tactic(auto, unfolding(crate::specs::Row::flags_text))]
 fn flags(out: &mut [u8], at: usize, set: u8) -> usize
     ensures { sheet out.new result ≡ puts (sheet out.old at) (flags_text set) }
 {
@@ -167,6 +168,7 @@ pub fn number_line(out: &mut [u8], at: usize, word: &[u8], n: u16) -> usize
 }
 
 // The line of a row of 8 bytes; nothing for a kind that there is not.
+#[tactic(auto, unfolding(crate::specs::Row::row_text, crate::specs::Row::back_text))]
 pub fn write_row(out: &mut [u8], at: usize, row: &[u8]) -> usize
     ensures { sheet out.new result ≡ puts (sheet out.old at) (row_text row.now) }
 {

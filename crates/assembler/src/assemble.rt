@@ -10,6 +10,7 @@ use fields::part::part;
 use reader::draft::Draft;
 
 // A text that did not fail and has settings and a fill.
+#[tactic(auto, unfolding(crate::specs::Assemble::ready_of))]
 pub fn ready(d: Draft) -> bool
     ensures { result ≡ ready_of d }
 {
@@ -17,6 +18,7 @@ pub fn ready(d: Draft) -> bool
 }
 
 // The place behind a bench file; 0 for bytes that are none.
+#[tactic(auto, unfolding(crate::specs::Assemble::checked))]
 fn check(out: &[u8], n: usize) -> usize
     ensures { result ≡ checked out.now n }
 {

@@ -8,6 +8,7 @@ ghost use Rattle.assembler.specs.Bind.{size_of, fill_size, head_of, bound};
 use append::put;
 
 // A length as a file can hold it; a longer body makes no file.
+#[tactic(auto, unfolding(crate::specs::Bind::size_of))]
 fn size(n: usize) -> u16
     ensures { result ≡ size_of n }
 {
@@ -15,6 +16,7 @@ fn size(n: usize) -> u16
 }
 
 // The fill stands behind the 2 bytes of the settings.
+#[tactic(auto, unfolding(crate::specs::Bind::fill_size))]
 fn fill_size(n: usize) -> u16
     ensures { result ≡ fill_size n }
 {

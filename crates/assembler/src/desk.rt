@@ -17,6 +17,7 @@ pub struct Desk {
 }
 
 // Settings, and bytes of the fill.
+#[tactic(auto, unfolding(crate::specs::Desk::front_of))]
 fn to_front(out: &mut [u8], at: usize, d: Draft) -> usize
     ensures { sheet out.new result ≡ puts (sheet out.old at) (front_of d) }
 {
@@ -32,6 +33,7 @@ fn to_front(out: &mut [u8], at: usize, d: Draft) -> usize
 }
 
 // Bytes of the ROM, or the lent file.
+#[tactic(auto, unfolding(crate::specs::Desk::rom_of))]
 fn to_rom(out: &mut [u8], at: usize, d: Draft, file: &[u8]) -> usize
     ensures { sheet out.new result ≡ puts (sheet out.old at) (rom_of file.now d) }
 {
@@ -46,6 +48,7 @@ fn to_rom(out: &mut [u8], at: usize, d: Draft, file: &[u8]) -> usize
 }
 
 // Rows.
+#[tactic(auto, unfolding(crate::specs::Desk::script_of))]
 fn to_script(out: &mut [u8], at: usize, d: Draft) -> usize
     ensures { sheet out.new result ≡ puts (sheet out.old at) (script_of d) }
 {

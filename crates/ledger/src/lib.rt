@@ -1,5 +1,6 @@
 // The text of a folder's figures: a line for each file, and a table with two lines for each figure.
 #![tactic(auto)]
+
 mod figure;
 mod name;
 

@@ -7,6 +7,7 @@ use append::number::decimal;
 use append::put;
 
 // Eight places, one a channel, for each of three kinds.
+#[tactic(auto, unfolding(crate::specs::Name::kind_text))]
 fn put_kind(out: &mut [u8], at: usize, kind: usize) -> usize
     ensures { sheet out.new result ≡ puts (sheet out.old at) (kind_text kind) }
 {
@@ -18,6 +19,7 @@ fn put_kind(out: &mut [u8], at: usize, kind: usize) -> usize
 }
 
 // Behind them the cycles held, by the DMA state after the cycle, and all of them.
+#[tactic(auto, unfolding(crate::specs::Name::state_text))]
 fn put_state(out: &mut [u8], at: usize, place: usize) -> usize
     ensures { sheet out.new result ≡ puts (sheet out.old at) (state_text place) }
 {

@@ -6,6 +6,7 @@ use crate::count::{Counted, count};
 use crate::progress::{clear, show, terminal};
 use fields::part::part;
 use input::{argument, read_named};
+use std::fs::File;
 use totals::Figures;
 use totals::folder::{Folder, add, none};
 
@@ -37,7 +38,7 @@ fn uncounted() -> Counted
 }
 
 // A file behind the last that has a place is not opened.
-fn next_file(i: usize, to: i32, of: u64) -> Next {
+fn next_file(rt: HostRuntime, i: usize, to: &mut Option<File>, of: u64) -> Next {
     if 256 < i {
         return Next {
             ok: true,
@@ -46,8 +47,8 @@ fn next_file(i: usize, to: i32, of: u64) -> Next {
     }
     let mut name = [0u8; 4096];
     let mut file = [0u8; 65537];
-    let n = argument(i, &mut name);
-    let got = read_named(b"figures", part(&name, 0, n), &mut file);
+    let n = argument(rt, i, &mut name);
+    let got = read_named(rt, b"figures", part(&name, 0, n), &mut file);
     if !got.ok {
         return Next {
             ok: false,
@@ -74,13 +75,18 @@ fn counted_of(args: usize) -> u64
 }
 
 // `args` counts the program's name too: file i is argument i. Its refusal and row go to place i.
-pub fn count_files(args: usize, numbers: &mut [u8; 257], rows: &mut [u64; 257]) -> Folded {
-    let to = terminal();
+pub fn count_files(
+    rt: HostRuntime,
+    args: usize,
+    numbers: &mut [u8; 257],
+    rows: &mut [u64; 257],
+) -> Folded {
+    let mut to = terminal(rt);
     let of = counted_of(args);
     let mut folder = none();
     let mut i: usize = 1;
     while i < args {
-        let next = next_file(i, to, of);
+        let next = next_file(rt, i, &mut to, of);
         let c = next.counted;
         let all = c.all;
         let alive = c.alive;

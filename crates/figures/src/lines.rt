@@ -2,35 +2,39 @@
 use fields::part::part;
 use input::argument;
 use ledger::{put_file, put_table};
-use libc::STDOUT_FILENO;
+use std::io;
 use totals::folder::Folder;
 
 // A file that was read has a name of at most 4,095 bytes.
-fn write_file(i: usize, number: u8, row: u64) -> bool {
+fn write_file(rt: HostRuntime, i: usize, number: u8, row: u64) -> io::Result<()> {
     let mut name = [0u8; 4096];
     let mut out = [0u8; 4224];
-    let n = argument(i, &mut name);
+    let n = argument(rt, i, &mut name);
     let end = put_file(&mut out, 0, i as u64, number, row, part(&name, 0, n));
-    io::write_all(STDOUT_FILENO, part(&out, 0, end))
+    rt.write_all(part(&out, 0, end))
 }
 
 // Files count from 1.
-pub fn write_files(files: u64, numbers: &[u8; 257], rows: &[u64; 257]) -> bool {
-    let mut ok = true;
+pub fn write_files(
+    rt: HostRuntime,
+    files: u64,
+    numbers: &[u8; 257],
+    rows: &[u64; 257],
+) -> io::Result<()> {
     let mut i: usize = 1;
     while i < 257 {
         let file = i;
         i += 1;
         if file as u64 <= files {
-            ok = ok && write_file(file, numbers[file], rows[file]);
+            write_file(rt, file, numbers[file], rows[file])?;
         }
     }
-    ok
+    Ok(())
 }
 
 // No table is longer (`table-most` in crates/ledger/proofs/Lengths.antt).
-pub fn write_table(folder: Folder) -> bool {
+pub fn write_table(rt: HostRuntime, folder: Folder) -> io::Result<()> {
     let mut out = [0u8; 8192];
     let end = put_table(&mut out, 0, folder);
-    io::write_all(STDOUT_FILENO, part(&out, 0, end))
+    rt.write_all(part(&out, 0, end))
 }

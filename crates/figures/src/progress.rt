@@ -2,31 +2,46 @@
 use append::number::decimal;
 use append::put;
 use fields::part::part;
-use libc::STDERR_FILENO;
+use std::fs;
+use std::fs::{File, OpenOptions};
+use std::io::{IsTerminal, Write};
+use std::os::unix::fs::FileTypeExt;
 
-// Standard error where it is a terminal; else descriptor 3, behind which ./run keeps its own. It is asked before any file is opened.
-pub fn terminal() -> i32 {
-    if libc::isatty(STDERR_FILENO) != 0 {
-        return STDERR_FILENO;
+// The terminal behind a descriptor. Only a device is opened: to open a pipe that nobody reads would wait for a reader.
+fn terminal_at(rt: HostRuntime, path: &str) -> Option<File> {
+    let kind = fs::metadata(&rt, path).ok()?.file_type();
+    if !kind.is_char_device() {
+        return None;
     }
-    if libc::isatty(3) != 0 { 3 } else { -1 }
+    let file = OpenOptions::new().write(true).open(&rt, path).ok()?;
+    if file.is_terminal() { Some(file) } else { None }
 }
 
-pub fn show(to: i32, file: u64, of: u64) {
-    if to < 0 {
-        return;
+// Standard error where it is a terminal; else descriptor 3, behind which ./run keeps its own. It is asked before any file is opened.
+pub fn terminal(rt: HostRuntime) -> Option<File> {
+    let error = terminal_at(rt, "/dev/fd/2");
+    if error.is_some() {
+        return error;
     }
+    terminal_at(rt, "/dev/fd/3")
+}
+
+fn write(to: &mut Option<File>, text: &[u8]) {
+    if let Some(file) = to {
+        let _ = file.write_all(text);
+    }
+}
+
+pub fn show(to: &mut Option<File>, file: u64, of: u64) {
     let mut out = [0u8; 80];
     let a = put(&mut out, 0, b"\rfigures: file ");
     let b = decimal(&mut out, a, file);
     let c = put(&mut out, b, b" of ");
     let d = decimal(&mut out, c, of);
     let e = put(&mut out, d, b"\x1b[K");
-    io::write_all(to, part(&out, 0, e));
+    write(to, part(&out, 0, e));
 }
 
-pub fn clear(to: i32) {
-    if 0 <= to {
-        io::write_all(to, b"\r\x1b[K");
-    }
+pub fn clear(to: &mut Option<File>) {
+    write(to, b"\r\x1b[K");
 }

@@ -1,5 +1,5 @@
 // Turns the bench file on standard input into text on standard output.
 #![tactic(auto)]
-fn main() {
-    textual::list();
+fn main(rt: HostRuntime) {
+    textual::list(rt);
 }

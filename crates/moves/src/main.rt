@@ -1,21 +1,21 @@
 // Lists every move of the bench file on standard input, or those of one byte of work RAM: a line for each access as it goes.
 #![tactic(auto)]
+
 mod lines;
 mod origin;
 mod steps;
 mod write;
 
 use fields::part::part;
-use input::complaint::refused;
-use input::{place_given, read_bench};
-use libc::STDERR_FILENO;
+use input::complaint::{refused, say, unwritten};
+use input::{argument_count, place_given, read_bench};
 use start::begin;
 use steps::Run;
 use walk::stand::Stand;
 use write::write_script;
 
 // A file that cannot be run has no line.
-fn show(file: &[u8], only: u32) {
+fn show(rt: HostRuntime, file: &[u8], only: u32) {
     let mut low = [0u8; 65536];
     let mut high = [0u8; 65536];
     let mut entries = [0u8; 65536];
@@ -23,7 +23,7 @@ fn show(file: &[u8], only: u32) {
     let mut out = [0u8; 65536];
     let s = begin(file, &mut low, &mut high);
     if s.number != 0 {
-        refused(b"moves", 0, s.number);
+        refused(rt, b"moves", 0, s.number);
         return;
     }
     let b = s.bench;
@@ -39,7 +39,8 @@ fn show(file: &[u8], only: u32) {
     };
     let rom = part(file, s.rom.at, s.rom.size);
     let script = part(file, s.script.at, s.script.size);
-    if !write_script(
+    if let Err(error) = write_script(
+        &rt,
         first,
         &mut low,
         &mut high,
@@ -50,35 +51,35 @@ fn show(file: &[u8], only: u32) {
         &mut out,
         only,
     ) {
-        os::fail(b"moves: standard output");
+        unwritten(rt, b"moves: standard output", error);
     }
 }
 
-fn with_place(only: u32) {
+fn with_place(rt: HostRuntime, only: u32) {
     let mut file = [0u8; 65537];
-    let got = read_bench(b"moves", &mut file);
+    let got = read_bench(rt, b"moves", &mut file);
     if !got.ok {
         return;
     }
-    show(part(&file, 0, got.n), only);
+    show(rt, part(&file, 0, got.n), only);
 }
 
 // Without an argument every access is listed.
-fn main() {
-    let count = os::arg_count();
+fn main(rt: HostRuntime) {
+    let count = argument_count(rt);
     if count < 2 {
-        with_place(131072);
+        with_place(rt, 131072);
         return;
     }
     if count > 2 {
-        io::write_all(
-            STDERR_FILENO,
+        say(
+            rt,
             b"moves: expected at most one argument, a place in work RAM such as $7E:1234\n",
         );
         return;
     }
-    let at = place_given(b"moves");
+    let at = place_given(rt, b"moves");
     if at < 131072 {
-        with_place(at);
+        with_place(rt, at);
     }
 }

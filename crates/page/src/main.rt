@@ -1,33 +1,33 @@
 // Writes the page of work RAM that holds a place, after the bench file on standard input.
 #![tactic(auto)]
+
 use bench::page::page_look;
 use dump::page::dump_page;
 use fields::part::part;
-use input::complaint::refused;
-use input::{place_given, read_bench};
-use libc::{STDERR_FILENO, STDOUT_FILENO};
+use input::complaint::{refused, say, unwritten};
+use input::{argument_count, place_given, read_bench};
 use printout::row::Show;
 use printout::rows::run_rows;
 use start::begin;
 
 // 16 lines of 78 bytes.
-fn write_page<'a>(low: &'a [u8], high: &'a [u8], page: u16) {
+fn write_page<'a>(rt: HostRuntime, low: &'a [u8], high: &'a [u8], page: u16) {
     let mut out = [0u8; 1248];
     let n = dump_page(&mut out, 0, page, page_look(low, high, page));
-    if !io::write_all(STDOUT_FILENO, part(&out, 0, n)) {
-        os::fail(b"page: standard output");
+    if let Err(error) = rt.write_all(part(&out, 0, n)) {
+        unwritten(rt, b"page: standard output", error);
     }
 }
 
 // A file that cannot be run has no page; after a refused row the page is as that row left it.
-fn show(file: &[u8], page: u16) {
+fn show(rt: HostRuntime, file: &[u8], page: u16) {
     let mut low = [0u8; 65536];
     let mut high = [0u8; 65536];
     let mut entries = [0u8; 65536];
     let mut line = [0u8; 105];
     let s = begin(file, &mut low, &mut high);
     if s.number != 0 {
-        refused(b"page", 0, s.number);
+        refused(rt, b"page", 0, s.number);
         return;
     }
     let b = s.bench;
@@ -45,27 +45,27 @@ fn show(file: &[u8], page: u16) {
         &mut line,
     );
     if e.number != 0 {
-        refused(b"page", e.next, e.number);
+        refused(rt, b"page", e.next, e.number);
     }
-    write_page(&low, &high, page);
+    write_page(rt, &low, &high, page);
 }
 
-fn main() {
-    if os::arg_count() != 2 {
-        io::write_all(
-            STDERR_FILENO,
+fn main(rt: HostRuntime) {
+    if argument_count(rt) != 2 {
+        say(
+            rt,
             b"page: expected one argument, a place in work RAM such as $7E:1234\n",
         );
         return;
     }
-    let at = place_given(b"page");
+    let at = place_given(rt, b"page");
     if at > 131071 {
         return;
     }
     let mut file = [0u8; 65537];
-    let got = read_bench(b"page", &mut file);
+    let got = read_bench(rt, b"page", &mut file);
     if !got.ok {
         return;
     }
-    show(part(&file, 0, got.n), (at / 256) as u16);
+    show(rt, part(&file, 0, got.n), (at / 256) as u16);
 }

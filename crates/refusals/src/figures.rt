@@ -18,21 +18,27 @@ fn laid(figures: [u64; 29], place: u8, n: u64) -> [u64; 29] {
 }
 
 // Says a figure that changed. Returns whether it did not.
-fn told(whose: &[u8], what: &[u8], place: usize, before: u64, after: u64) -> bool {
+fn told(rt: HostRuntime, whose: &[u8], what: &[u8], place: usize, before: u64, after: u64) -> bool {
     if before == after {
         return true;
     }
-    say(whose);
-    say_named(what, place);
-    say_named(b" is ", after as usize);
+    say(rt, whose);
+    say_named(rt, what, place);
+    say_named(rt, b" is ", after as usize);
     false
 }
 
-fn all_told(whose: &[u8], what: &[u8], before: &[u64; 29], after: &[u64; 29]) -> bool {
+fn all_told(
+    rt: HostRuntime,
+    whose: &[u8],
+    what: &[u8],
+    before: &[u64; 29],
+    after: &[u64; 29],
+) -> bool {
     let mut same = true;
     let mut i: usize = 0;
     while i < 29 {
-        let here = told(whose, what, i, before[i], after[i]);
+        let here = told(rt, whose, what, i, before[i], after[i]);
         same = same & here;
         i += 1;
     }
@@ -52,12 +58,12 @@ fn share(given: &[u8]) -> Share {
 
 // Given are one total; the share's general bytes, units, table bytes and held; the total's place, and the share's channel and state. Every
 // other total is 7.
-pub fn count_tried(given: &[u8]) -> bool {
+pub fn count_tried(rt: HostRuntime, given: &[u8]) -> bool {
     let before = laid([7u64; 29], byte(given, 40), eight(given, 0));
     let mut after = before;
     let number = count(&mut after, share(given));
-    let same = all_told(b", ", b"total ", &before, &after);
-    say_end(number, same)
+    let same = all_told(rt, b", ", b"total ", &before, &after);
+    say_end(rt, number, same)
 }
 
 // The column of files of which the first has one figure, and the others are at 0.
@@ -70,33 +76,33 @@ fn column(place: u8, figure: u64) -> Column {
     }
 }
 
-fn column_told(whose: &[u8], before: Column, after: Column) -> bool {
-    let sum = all_told(whose, b"total ", &before.sum, &after.sum);
-    let most = all_told(whose, b"largest ", &before.most, &after.most);
-    let file = all_told(whose, b"file ", &before.file, &after.file);
+fn column_told(rt: HostRuntime, whose: &[u8], before: Column, after: Column) -> bool {
+    let sum = all_told(rt, whose, b"total ", &before.sum, &after.sum);
+    let most = all_told(rt, whose, b"largest ", &before.most, &after.most);
+    let file = all_told(rt, whose, b"file ", &before.file, &after.file);
     sum & most & file
 }
 
-fn files_told(before: u64, after: u64) -> bool {
+fn files_told(rt: HostRuntime, before: u64, after: u64) -> bool {
     if before == after {
         return true;
     }
-    say_named(b", files ", after as usize);
+    say_named(rt, b", files ", after as usize);
     false
 }
 
-fn added(f: Folder, all: Figures, alive: Figures) -> bool {
+fn added(rt: HostRuntime, f: Folder, all: Figures, alive: Figures) -> bool {
     let a = add(f, all, alive);
     let after = a.folder;
-    let files = files_told(f.files, after.files);
-    let both = column_told(b", all ", f.all, after.all);
-    let kept = column_told(b", survivors ", f.alive, after.alive);
-    say_end(a.number, files & both & kept)
+    let files = files_told(rt, f.files, after.files);
+    let both = column_told(rt, b", all ", f.all, after.all);
+    let kept = column_told(rt, b", survivors ", f.alive, after.alive);
+    say_end(rt, a.number, files & both & kept)
 }
 
 // Given are how many files there are, a figure of the first of them, the same figure of the file added; the column, 1 for the survivors;
 // and the figure's place. All other figures are 0.
-pub fn add_tried(given: &[u8]) -> bool {
+pub fn add_tried(rt: HostRuntime, given: &[u8]) -> bool {
     let files = eight(given, 0);
     let place = byte(given, 25);
     let old = column(place, eight(given, 8));
@@ -111,12 +117,12 @@ pub fn add_tried(given: &[u8]) -> bool {
             all: old,
             alive: empty,
         };
-        return added(f, new, zeros);
+        return added(rt, f, new, zeros);
     }
     let f = Folder {
         files: files,
         all: empty,
         alive: old,
     };
-    added(f, zeros, new)
+    added(rt, f, zeros, new)
 }

@@ -17,19 +17,23 @@ fn built(file: &mut [u8], given: &[u8]) {
     put(file, four(given, 36) as usize, part(given, 40, 5));
 }
 
-pub fn file_tried(given: &[u8]) -> bool {
+pub fn file_tried(rt: HostRuntime, given: &[u8]) -> bool {
     let mut file = [0u8; FILE];
     built(&mut file, given);
-    say_last(file_check(part(&file, 0, four(given, 32) as usize)))
+    say_last(rt, file_check(part(&file, 0, four(given, 32) as usize)))
 }
 
-fn section(file: &[u8], which: u8) -> bool {
-    say_part(section_look(file, which)) & say_last(section_number(file, which))
+fn section(rt: HostRuntime, file: &[u8], which: u8) -> bool {
+    say_part(rt, section_look(file, which)) & say_last(rt, section_number(file, which))
 }
 
 // Section look gives as many bytes as the contents say, and none where it is refused.
-pub fn section_tried(given: &[u8]) -> bool {
+pub fn section_tried(rt: HostRuntime, given: &[u8]) -> bool {
     let mut file = [0u8; FILE];
     built(&mut file, given);
-    section(part(&file, 0, four(given, 32) as usize), byte(given, 45))
+    section(
+        rt,
+        part(&file, 0, four(given, 32) as usize),
+        byte(given, 45),
+    )
 }

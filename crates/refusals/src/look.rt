@@ -9,7 +9,7 @@ use fields::word::{byte, four, two};
 
 // The lengths of both banks, record length and bit cycles are given. Every byte lent is $A5, but for the first of $7F. The line says the
 // number, and bit cycles, record length, next slot, kept and sum of what fresh gave.
-pub fn fresh_tried(given: &[u8]) -> bool {
+pub fn fresh_tried(rt: HostRuntime, given: &[u8]) -> bool {
     let low = [0xA5u8; 65537];
     let mut high = [0xA5u8; 65537];
     high[0] = 0x5A;
@@ -19,31 +19,31 @@ pub fn fresh_tried(given: &[u8]) -> bool {
         four(given, 8) as usize,
         two(given, 12),
     );
-    say_fresh(a)
+    say_fresh(rt, a)
 }
 
-fn say_fresh(a: Answer) -> bool {
+fn say_fresh(rt: HostRuntime, a: Answer) -> bool {
     let b = a.bench;
-    say_named(b": ", a.number as usize);
-    say_named(b", bit cycles ", b.machine.board.bitcycles as usize);
-    say_named(b", record length ", b.length);
-    say_named(b", slot ", b.slot);
-    say_named(b", kept ", b.kept);
-    say_named(b", sum ", b.sum as usize);
-    say(b"\n")
+    say_named(rt, b": ", a.number as usize);
+    say_named(rt, b", bit cycles ", b.machine.board.bitcycles as usize);
+    say_named(rt, b", record length ", b.length);
+    say_named(rt, b", slot ", b.slot);
+    say_named(rt, b", kept ", b.kept);
+    say_named(rt, b", sum ", b.sum as usize);
+    say(rt, b"\n")
 }
 
 // The length of the part handed back.
-pub fn say_part(bytes: &[u8]) -> bool {
-    say_named(b", part of ", bytes.len())
+pub fn say_part(rt: HostRuntime, bytes: &[u8]) -> bool {
+    say_named(rt, b", part of ", bytes.len())
 }
 
 // Its first byte, where it has one.
-fn say_first(bytes: &[u8]) -> bool {
+fn say_first(rt: HostRuntime, bytes: &[u8]) -> bool {
     if bytes.len() == 0 {
         return true;
     }
-    say_named(b", first byte ", byte(bytes, 0) as usize)
+    say_named(rt, b", first byte ", byte(bytes, 0) as usize)
 }
 
 // Bytes that tell the pages: 1 and 2 on the low bank's first and last, 3 and 4 on the high bank's.
@@ -54,18 +54,19 @@ fn mark(bank: &mut [u8], first: u8, last: u8) {
     put(bank, 65280, &b);
 }
 
-fn look<'a>(low: &'a [u8], high: &'a [u8], page: u16) -> bool {
+fn look<'a>(rt: HostRuntime, low: &'a [u8], high: &'a [u8], page: u16) -> bool {
     let bytes = page_look(low, high, page);
-    say_part(bytes) & say_first(bytes) & say_last(page_number(low, high, page))
+    say_part(rt, bytes) & say_first(rt, bytes) & say_last(rt, page_number(low, high, page))
 }
 
 // The lengths of both banks and the page are given.
-pub fn page_tried(given: &[u8]) -> bool {
+pub fn page_tried(rt: HostRuntime, given: &[u8]) -> bool {
     let mut low = [0u8; 65537];
     let mut high = [0u8; 65537];
     mark(&mut low, 1, 2);
     mark(&mut high, 3, 4);
     look(
+        rt,
         part(&low, 0, four(given, 0) as usize),
         part(&high, 0, four(given, 4) as usize),
         two(given, 8),

@@ -1,29 +1,27 @@
 // What a line is put together from.
-use libc::STDOUT_FILENO;
-
-pub fn say(text: &[u8]) -> bool {
-    io::write_all(STDOUT_FILENO, text)
+pub fn say(rt: HostRuntime, text: &[u8]) -> bool {
+    rt.write_all(text).is_ok()
 }
 
-pub fn say_number(n: u64) -> bool {
-    io::print_decimal(STDOUT_FILENO, n)
+pub fn say_number(rt: HostRuntime, n: u64) -> bool {
+    rt.print(n).is_ok()
 }
 
-pub fn say_named(name: &[u8], n: usize) -> bool {
-    say(name) & say_number(n as u64)
+pub fn say_named(rt: HostRuntime, name: &[u8], n: usize) -> bool {
+    say(rt, name) & say_number(rt, n as u64)
 }
 
 // The end of a line: the number got.
-pub fn say_last(number: u8) -> bool {
-    say(b": ") & say_number(number as u64) & say(b"\n")
+pub fn say_last(rt: HostRuntime, number: u8) -> bool {
+    say(rt, b": ") & say_number(rt, number as u64) & say(rt, b"\n")
 }
 
 // And whether all stayed as it was.
-pub fn say_end(number: u8, stayed: bool) -> bool {
-    say(b": ");
-    say_number(number as u64);
+pub fn say_end(rt: HostRuntime, number: u8, stayed: bool) -> bool {
+    say(rt, b": ");
+    say_number(rt, number as u64);
     if stayed {
-        return say(b", all as it was\n");
+        return say(rt, b", all as it was\n");
     }
-    say(b", changed\n")
+    say(rt, b", changed\n")
 }

@@ -1,72 +1,74 @@
 // Replays the list of bench files on standard input: each stands behind its length in 4 bytes, and gets a line `file N` before its own.
 #![tactic(auto)]
+
 use append::number::decimal;
 use append::{push_byte, put};
 use fields::part::part;
 use fields::word::four;
+use input::complaint::{fail, say, unwritten};
 use input::read_all;
-use libc::{STDERR_FILENO, STDIN_FILENO};
 use printout::output::{write_text, write_trace};
+use std::io;
 
-fn cut_short() -> bool {
-    io::write_all(STDERR_FILENO, b"the list is cut short\n");
+fn cut_short(rt: HostRuntime) -> bool {
+    say(rt, b"the list is cut short\n");
+    false
+}
+
+fn unread(rt: HostRuntime, error: io::Error) -> bool {
+    fail(rt, b"standard input", error);
     false
 }
 
 // The next file of the list; false where it does not come whole.
-fn read_file(file: &mut [u8], size: usize) -> bool {
+fn read_file(rt: HostRuntime, file: &mut [u8], size: usize) -> bool {
     if file.len() < size {
-        return cut_short();
+        return cut_short(rt);
     }
-    let got = read_all(STDIN_FILENO, &mut file[..size]);
-    if !got.ok {
-        os::fail(b"standard input");
-        return false;
+    match read_all(&mut rt.stdin(), &mut file[..size]) {
+        Ok(n) => (n == size) || cut_short(rt),
+        Err(error) => unread(rt, error),
     }
-    if got.n < size {
-        return cut_short();
-    }
-    true
 }
 
-// Its header and its lines; false where it could not be read or written.
-fn replay_file(number: u64, size: usize) -> bool {
-    let mut file = [0u8; 65537];
-    if !read_file(&mut file, size) {
-        return false;
-    }
+fn write_file(rt: HostRuntime, number: u64, file: &[u8]) -> io::Result<()> {
     let mut head = [0u8; 32];
     let word = put(&mut head, 0, b"file ");
     let digits = decimal(&mut head, word, number);
     let end = push_byte(&mut head, digits, b'\n');
-    if !(write_text(&head, end) & write_trace(part(&file, 0, size))) {
-        os::fail(b"standard output");
+    write_text(&rt, &head, end)?;
+    write_trace(&rt, file)
+}
+
+// Its header and its lines; false where it could not be read or written.
+fn replay_file(rt: HostRuntime, number: u64, size: usize) -> bool {
+    let mut file = [0u8; 65537];
+    if !read_file(rt, &mut file, size) {
         return false;
     }
-    true
+    match write_file(rt, number, part(&file, 0, size)) {
+        Ok(()) => true,
+        Err(error) => {
+            unwritten(rt, b"standard output", error);
+            false
+        }
+    }
 }
 
 // One file of the list; false at its end, or where it stops.
-fn replay_one(number: u64) -> bool {
+fn replay_one(rt: HostRuntime, number: u64) -> bool {
     let mut size = [0u8; 4];
-    let got = read_all(STDIN_FILENO, &mut size);
-    if !got.ok {
-        os::fail(b"standard input");
-        return false;
+    match read_all(&mut rt.stdin(), &mut size) {
+        Ok(0) => false,
+        Ok(4) => replay_file(rt, number, four(&size, 0) as usize),
+        Ok(_) => cut_short(rt),
+        Err(error) => unread(rt, error),
     }
-    if got.n == 0 {
-        return false;
-    }
-    if got.n < 4 {
-        return cut_short();
-    }
-    let n = four(&size, 0);
-    replay_file(number, n as usize)
 }
 
-fn main() {
+fn main(rt: HostRuntime) {
     let mut number = 1;
-    while number < u64::MAX && replay_one(number) {
+    while number < u64::MAX && replay_one(rt, number) {
         number += 1;
     }
 }

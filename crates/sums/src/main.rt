@@ -1,34 +1,36 @@
 // Prints the sum of work RAM after each row of the bench file on standard input.
 #![tactic(auto)]
-use fields::part::part;
-use input::complaint::refused;
-use input::read_bench;
-use libc::STDERR_FILENO;
-use printout::output::write_sums;
 
-fn show(file: &[u8]) {
-    let w = write_sums(file);
-    if !w.ok {
-        os::fail(b"sums: standard output");
-        return;
-    }
+use fields::part::part;
+use input::complaint::{refused, say, unwritten};
+use input::{argument_count, read_bench};
+use printout::output::{Written, write_sums};
+
+fn end(rt: HostRuntime, w: Written) {
     if w.number != 0 {
-        refused(b"sums", w.rows, w.number);
+        refused(rt, b"sums", w.rows, w.number);
     }
 }
 
-fn main() {
-    if os::arg_count() != 1 {
-        io::write_all(
-            STDERR_FILENO,
+fn show(rt: HostRuntime, file: &[u8]) {
+    match write_sums(&rt, file) {
+        Ok(w) => end(rt, w),
+        Err(error) => unwritten(rt, b"sums: standard output", error),
+    }
+}
+
+fn main(rt: HostRuntime) {
+    if argument_count(rt) != 1 {
+        say(
+            rt,
             b"sums: expected no argument: the bench file comes on standard input\n",
         );
         return;
     }
     let mut file = [0u8; 65537];
-    let got = read_bench(b"sums", &mut file);
+    let got = read_bench(rt, b"sums", &mut file);
     if !got.ok {
         return;
     }
-    show(part(&file, 0, got.n));
+    show(rt, part(&file, 0, got.n));
 }

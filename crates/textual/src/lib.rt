@@ -1,5 +1,6 @@
 // The programs assemble and list: read, call, write. What is wrong goes to standard error in one line, and nothing to standard output.
 #![tactic(auto)]
+
 pub mod mark;
 pub mod message;
 pub mod name;
@@ -7,100 +8,90 @@ pub mod name;
 use assembler::assemble::assemble_text;
 use benchfile::check::file_check;
 use fields::part::part;
-use input::read_all;
-use libc::{STDERR_FILENO, STDIN_FILENO, STDOUT_FILENO};
+use input::complaint::{fail, say, unread, unwritten};
+use input::{argument_count, read_all, read_file};
 use lister::list::list_file;
 use message::report;
 use name::name_in;
 use reader::text::name_at;
 
 // The bench file of a text, and the bytes of its ROM file.
-fn assembled(text: &[u8], rom: &[u8]) {
+fn assembled(rt: HostRuntime, text: &[u8], rom: &[u8]) {
     let mut out = [0u8; 65537];
     let n = assemble_text(&mut out, text, rom);
     if n == 0 {
-        report(text);
+        report(rt, text);
         return;
     }
-    if !io::write_all(STDOUT_FILENO, part(&out, 0, n)) {
-        os::fail(b"assemble: standard output");
+    if let Err(error) = rt.write_all(part(&out, 0, n)) {
+        unwritten(rt, b"assemble: standard output", error);
     }
 }
 
 // A ROM file over 65,536 bytes makes no bench.
-fn with_file(text: &[u8], name: &[u8]) {
-    let fd = os::open_read(name);
-    if fd < 0 {
-        os::fail(name);
-        return;
-    }
+fn with_file(rt: HostRuntime, text: &[u8], name: &[u8]) {
     let mut rom = [0u8; 65537];
-    let got = read_all(fd, &mut rom);
-    if !got.ok {
-        os::fail(name);
-        return;
+    match read_file(rt, name, &mut rom) {
+        Ok(n) => assembled(rt, text, part(&rom, 0, n)),
+        Err(error) => fail(rt, name, error),
     }
-    assembled(text, part(&rom, 0, got.n));
 }
 
-fn with_rom(text: &[u8]) {
+fn with_rom(rt: HostRuntime, text: &[u8]) {
     let name = name_in(text, name_at(text));
     if name.len() == 0 {
-        assembled(text, name);
+        assembled(rt, text, name);
     } else {
-        with_file(text, name);
+        with_file(rt, text, name);
     }
 }
 
-pub fn assemble() {
-    if os::arg_count() != 1 {
-        io::write_all(
-            STDERR_FILENO,
+fn with_text(rt: HostRuntime, text: &[u8]) {
+    if text.len() == 524289 {
+        say(rt, b"assemble: the text is longer than 524288 bytes\n");
+        return;
+    }
+    with_rom(rt, text);
+}
+
+pub fn assemble(rt: HostRuntime) {
+    if argument_count(rt) != 1 {
+        say(
+            rt,
             b"assemble: expected no argument: the text comes on standard input\n",
         );
         return;
     }
     let mut text = [0u8; 524289];
-    let got = read_all(STDIN_FILENO, &mut text);
-    if !got.ok {
-        os::fail(b"assemble: standard input");
-        return;
+    match read_all(&mut rt.stdin(), &mut text) {
+        Ok(n) => with_text(rt, part(&text, 0, n)),
+        Err(error) => unread(rt, b"assemble", error),
     }
-    if got.n == 524289 {
-        io::write_all(
-            STDERR_FILENO,
-            b"assemble: the text is longer than 524288 bytes\n",
-        );
-        return;
-    }
-    with_rom(part(&text, 0, got.n));
 }
 
-fn listed(file: &[u8]) {
+fn listed(rt: HostRuntime, file: &[u8]) {
     if file_check(file) != 0 {
-        io::write_all(STDERR_FILENO, b"list: standard input is no bench file\n");
+        say(rt, b"list: standard input is no bench file\n");
         return;
     }
     let mut out = [0u8; 327680];
     let n = list_file(&mut out, file);
-    if !io::write_all(STDOUT_FILENO, part(&out, 0, n)) {
-        os::fail(b"list: standard output");
+    if let Err(error) = rt.write_all(part(&out, 0, n)) {
+        unwritten(rt, b"list: standard output", error);
     }
 }
 
-pub fn list() {
-    if os::arg_count() != 1 {
-        io::write_all(
-            STDERR_FILENO,
+pub fn list(rt: HostRuntime) {
+    if argument_count(rt) != 1 {
+        say(
+            rt,
             b"list: expected no argument: the bench file comes on standard input\n",
         );
         return;
     }
     let mut file = [0u8; 65537];
-    let got = read_all(STDIN_FILENO, &mut file);
-    if !got.ok {
-        os::fail(b"list: standard input");
-        return;
+    match read_all(&mut rt.stdin(), &mut file) {
+        Ok(n) => listed(rt, part(&file, 0, n)),
+        Err(error) => unread(rt, b"list", error),
     }
-    listed(part(&file, 0, got.n));
 }

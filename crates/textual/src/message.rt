@@ -4,7 +4,7 @@ use append::number::decimal;
 use append::put;
 use dump::page::signs;
 use fields::part::part;
-use libc::STDERR_FILENO;
+use input::complaint::say;
 use reader::draft::Draft;
 use reader::reader::read;
 use reader::text::{fault, read_all};
@@ -99,7 +99,7 @@ fn found(out: &mut [u8], at: usize, text: &[u8], from: usize) -> usize {
 }
 
 // One line on standard error: the line, the word, what was expected.
-pub fn report(text: &[u8]) {
+pub fn report(rt: HostRuntime, text: &[u8]) {
     let upto = part(text, 0, fault(text));
     let lines = marks_in(upto, 1, true);
     let words = marks_in(upto, 3, true);
@@ -109,5 +109,5 @@ pub fn report(text: &[u8]) {
     let c = put(&mut out, b, b": ");
     let d = found(&mut out, c, upto, words.behind);
     let e = put(&mut out, d, b"\n");
-    io::write_all(STDERR_FILENO, part(&out, 0, e));
+    say(rt, part(&out, 0, e));
 }

@@ -12,7 +12,6 @@ use Rattle.fields.proofs.Parts.{part_bytes}
 use Rattle.benchfile.proofs.Scripts.{script-formed}
 use Rattle.benchfile.proofs.Format.{taken-apart, section_0, section_1, section_2, section_3}
 use Rattle.assembler.specs.Bind.{bound}
-use Rattle.bothways.proofs.Rows.{fill, rom, rows}
 use Rattle.bothways.proofs.Bound.{bound-build}
 
 -- bytes of a section, or none

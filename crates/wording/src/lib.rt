@@ -10,6 +10,7 @@ ghost use Rattle.wording.specs.Words.{words_of};
 use append::put;
 
 // Document 01's table, in its order; 13 and 14 are document 02's.
+#[tactic(auto, unfolding(crate::specs::Words::words_of))]
 pub fn words(out: &mut [u8], at: usize, number: u8) -> usize
     ensures { sheet out.new result ≡ puts (sheet out.old at) (words_of number) }
 {

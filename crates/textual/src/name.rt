@@ -6,6 +6,7 @@ use crate::mark::marks_in;
 use fields::part::part;
 
 // Empty where no name stands.
+#[tactic(auto, unfolding(crate::specs::Name::name_of))]
 pub fn name_in(text: &[u8], at: usize) -> &[u8]
     ensures { result.now ≡ name_of text.now at }
 {

@@ -1,5 +1,6 @@
 // The machine with the record's counts and the sum: the slots go round, an operation is noted, and bad input is refused by number.
 #![tactic(auto)]
+
 pub mod refusal;
 pub mod slots;
 

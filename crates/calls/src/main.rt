@@ -32,11 +32,12 @@ fn print(rt: HostRuntime, line: &[u8], end: usize) -> bool {
     }
 }
 
-// A loop has to end, and nothing says that a list does: it counts its calls down from a number that none reaches.
+// A loop has to end, and nothing says that a list does: it counts its calls up to a number that none reaches.
 fn each(rt: HostRuntime, rom: &[u8]) {
-    let mut turns = u64::MAX;
-    while turns > 0 && one(rt, rom) {
-        turns -= 1;
+    for _ in 0..u64::MAX {
+        if !one(rt, rom) {
+            return;
+        }
     }
 }
 

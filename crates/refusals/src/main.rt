@@ -64,11 +64,12 @@ fn one(rt: HostRuntime, rom: &[u8]) -> bool {
     other_tried(rt, start[0])
 }
 
-// The tries are counted down from a number that none reaches: a loop has to end.
+// The tries are counted up to a number that none reaches: a loop has to end.
 fn each(rt: HostRuntime, rom: &[u8]) {
-    let mut turns = u64::MAX;
-    while turns > 0 && one(rt, rom) {
-        turns -= 1;
+    for _ in 0..u64::MAX {
+        if !one(rt, rom) {
+            return;
+        }
     }
 }
 

@@ -67,8 +67,9 @@ fn replay_one(rt: HostRuntime, number: u64) -> bool {
 }
 
 fn main(rt: HostRuntime) {
-    let mut number = 1;
-    while number < u64::MAX && replay_one(rt, number) {
-        number += 1;
+    for number in 1..u64::MAX {
+        if !replay_one(rt, number) {
+            return;
+        }
     }
 }

@@ -46,12 +46,22 @@ fn with_rom(rt: HostRuntime, text: &[u8]) {
     }
 }
 
+// The longest text, and one byte more.
+const TEXT: usize = 524289;
+
 fn with_text(rt: HostRuntime, text: &[u8]) {
-    if text.len() == 524289 {
+    if text.len() == TEXT {
         say(rt, b"assemble: the text is longer than 524288 bytes\n");
         return;
     }
     with_rom(rt, text);
+}
+
+fn with_room(rt: HostRuntime, text: &mut [u8; TEXT]) {
+    match read_all(&mut rt.stdin(), text) {
+        Ok(n) => with_text(rt, part(text, 0, n)),
+        Err(error) => unread(rt, b"assemble", error),
+    }
 }
 
 pub fn assemble(rt: HostRuntime) {
@@ -62,11 +72,7 @@ pub fn assemble(rt: HostRuntime) {
         );
         return;
     }
-    let mut text = [0u8; 524289];
-    match read_all(&mut rt.stdin(), &mut text) {
-        Ok(n) => with_text(rt, part(&text, 0, n)),
-        Err(error) => unread(rt, b"assemble", error),
-    }
+    with_room(rt, &mut [0u8; TEXT]);
 }
 
 fn listed(rt: HostRuntime, file: &[u8]) {

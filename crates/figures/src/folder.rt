@@ -84,8 +84,7 @@ pub fn count_files(
     let mut to = terminal(rt);
     let of = counted_of(args);
     let mut folder = none();
-    let mut i: usize = 1;
-    while i < args {
+    for i in 1..args {
         let next = next_file(rt, i, &mut to, of);
         let c = next.counted;
         let all = c.all;
@@ -104,7 +103,6 @@ pub fn count_files(
             rows[i] = c.row as u64;
         }
         folder = a.folder;
-        i += 1;
     }
     Folded {
         ok: true,

@@ -21,10 +21,7 @@ pub fn write_files(
     numbers: &[u8; 257],
     rows: &[u64; 257],
 ) -> io::Result<()> {
-    let mut i: usize = 1;
-    while i < 257 {
-        let file = i;
-        i += 1;
+    for file in 1..257usize {
         if file as u64 <= files {
             write_file(rt, file, numbers[file], rows[file])?;
         }

@@ -1,0 +1,14 @@
+use Rattle.common.proofs.AllLaws.{◌also◌}
+use Rattle.script.proofs.Loop.{Going, going_start, going_on, going_end}
+use Rattle.script.proofs.{Join.slices_of, Join.cycle-with}
+use Rattle.script.specs.Run.{Running, ran, start, cycle_step, cycles_run}
+use Rattle.bench.specs.Calls.{desk}
+use Rattle.std.proofs.Common.{◌-◌, refl, arith}
+use Rattle.script.proofs.repeat.run_cycles.Given as goal
+
+abbrev pub invariant-loop-i : goal.invariant-loop-i
+invariant-loop-i l = let d = desk l.initial.s.bench l.initial.low l.initial.high l.initial.entries in
+    Going (slices_of (λ (x : Running). x.desk)) (λ k. cycles_run l.rom l.event l.line l.timer k d) l.count (start d) (ran l.s l.low l.high l.entries) l.i
+
+abbrev pub decreases-loop-i : goal.decreases-loop-i
+decreases-loop-i l = l.count - l.i

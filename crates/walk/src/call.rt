@@ -50,6 +50,7 @@ fn plain(number: u8, byte: u32, cost: u32, back: bool, count: u16) -> Answer
 }
 
 // The call that comes after `done` others of its row; event and flags hold for the first cycle.
+#[tactic(auto, unfolding(crate::specs::Call::call_of))]
 pub fn call(
     b: Bench,
     low: &mut [u8],

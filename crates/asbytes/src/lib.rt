@@ -1,5 +1,6 @@
 // The machine and a cycle's answer as bytes that a player lends (docs/PLAYER.md).
 #![tactic(auto)]
+
 pub mod answer;
 pub mod bytes;
 

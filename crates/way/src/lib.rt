@@ -1,5 +1,6 @@
 // Which way a cycle goes, by the machine's bytes: most cycles can be made on the bytes themselves (room inplace).
 #![tactic(auto)]
+
 ghost use Rattle.std.specs.Prelude.{◌≡◌};
 ghost use Rattle.asbytes.specs.Machine.{head_of};
 ghost use Rattle.ranges.specs.Entry.{entry_ok};

@@ -1,0 +1,17 @@
+use Rattle.common.proofs.AllLaws.{◌also◌}
+use Rattle.script.proofs.Loop.{Going, going_start, going_on, going_end}
+use Rattle.tally.specs.Run.{tallying, step_tallied, calls_tallied}
+use Rattle.tally.proofs.Join.{lent_slices}
+use Rattle.std.proofs.Common.{◌-◌, refl, arith}
+use Rattle.std.proofs.Common.{rules}
+use Rattle.tally.proofs.run.tally_calls.Goals as goal
+
+pub loop-i-init : goal.loop-i-init
+unfolding calls_tallied
+loop-i-init c = going_start refl
+
+pub loop-i-preserved : goal.loop-i-preserved
+unfolding calls_tallied
+loop-i-preserved c =
+    let step = c.tally_step-next in
+    going_on c.loop-i.invariant c.loop-i-test.true (step_tallied _ _ _ _) step.ensures refl (step.auto.1.1.1.1.1.0 also step.auto.1.1.1.1.1.1.0 also step.auto.1.0 also step.auto.1.1.0 also step.auto.1.1.1.0 also tt)

@@ -1,0 +1,17 @@
+use Rattle.common.proofs.AllLaws.{◌also◌}
+use Rattle.script.proofs.Loop.{Going, going_start, going_on, going_end}
+use Rattle.tally.specs.Run.{tallying, row_tallied, rows_tallied}
+use Rattle.tally.proofs.Join.{lent_slices}
+use Rattle.std.proofs.Common.{◌-◌, refl, arith}
+use Rattle.std.proofs.Common.{rules}
+use Rattle.tally.proofs.run.tally_script.Goals as goal
+
+pub loop-row-init : goal.loop-row-init
+unfolding rows_tallied
+loop-row-init c = going_start refl
+
+pub loop-row-preserved : goal.loop-row-preserved
+unfolding rows_tallied
+loop-row-preserved c =
+    let step = c.tally_row-next in
+    going_on c.loop-row.invariant c.loop-row-test.true (row_tallied _ _ _ _) step.ensures refl (step.auto.1.1.1.1.1.1.1.0 also step.auto.1.1.1.1.1.1.1.1.0 also step.auto.1.0 also step.auto.1.1.0 also step.auto.1.1.1.0 also tt)

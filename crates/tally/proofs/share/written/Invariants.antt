@@ -1,0 +1,10 @@
+use Rattle.std.proofs.Common.{◌-◌, ◌≤◌, get_or, refl, arith, rules}
+use Rattle.bus.specs.Access.{no_access}
+use Rattle.tally.proofs.Writes.{Seen, seen_none, seen_more, seen-room, seen_all}
+use Rattle.tally.proofs.share.written.Given as goal
+
+abbrev pub invariant-loop-i : goal.invariant-loop-i
+invariant-loop-i l = (l.i ≤ l.count) × Seen l.items l.n l.i
+
+abbrev pub decreases-loop-i : goal.decreases-loop-i
+decreases-loop-i l = l.count - l.i

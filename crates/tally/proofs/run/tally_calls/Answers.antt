@@ -14,4 +14,4 @@ pub loop-i-preserved : goal.loop-i-preserved
 unfolding calls_tallied
 loop-i-preserved c =
     let step = c.tally_step-next in
-    going_on c.loop-i.invariant c.loop-i-test.true (step_tallied _ _ _ _) step.ensures refl (step.auto.1.1.1.1.1.0 also step.auto.1.1.1.1.1.1.0 also step.auto.1.0 also step.auto.1.1.0 also step.auto.1.1.1.0 also tt)
+    going_on c.loop-i.invariant c.loop-i-test.true (step_tallied _ _ _ _) step.ensures refl (step.auto.alive also step.auto.totals also step.auto.low also step.auto.high also step.auto.entries also tt)

@@ -14,4 +14,4 @@ pub loop-row-preserved : goal.loop-row-preserved
 unfolding rows_tallied
 loop-row-preserved c =
     let step = c.tally_row-next in
-    going_on c.loop-row.invariant c.loop-row-test.true (row_tallied _ _ _ _) step.ensures refl (step.auto.1.1.1.1.1.1.1.0 also step.auto.1.1.1.1.1.1.1.1.0 also step.auto.1.0 also step.auto.1.1.0 also step.auto.1.1.1.0 also tt)
+    going_on c.loop-row.invariant c.loop-row-test.true (row_tallied _ _ _ _) step.ensures refl (step.auto.alive also step.auto.totals also step.auto.low also step.auto.high also step.auto.entries also tt)

@@ -1,0 +1,8 @@
+use Rattle.append.proofs.Laws.{puts_none}
+use mathlib.Core.Path.{sym}
+use borrow.Author.Tests.{lt-ltb, le-ltb}
+use borrow.Author.Rules.{rules}
+use Rattle.listing.proofs.line.put_spot.Goals as goal
+
+pub returns : goal.returns
+returns c = simp (le-ltb _ _ c.if-spot-lt131072.false) (sym (puts_none _))

@@ -1,0 +1,17 @@
+use Rattle.common.proofs.AllLaws.{◌also◌}
+use Rattle.script.proofs.Loop.{Going, going_start, going_on, going_end}
+use Rattle.script.proofs.Join.{slices_of}
+use Rattle.moves.specs.Steps.{Running, running, stepped, steps}
+use mathlib.Core.List.{◌∷◌}
+use mathlib.Core.Path.{refl}
+use native.Mathlib.Omega.{arith}
+use Prim.Native.Nat.{◌-◌}
+use Rattle.moves.proofs.steps.run_steps.Given as goal
+
+abbrev pub invariant-loop-i : goal.invariant-loop-i
+invariant-loop-i l = let first = running l.initial.w l.initial.low l.initial.high l.initial.entries l.initial.origins l.initial.out in
+    Going ((λ (x : Running). x.sheet.text) ∷ (λ (x : Running). x.origins) ∷ slices_of (λ (x : Running). x.desk)) (λ k. steps l.rom l.script l.only k first) l.count first
+    (running l.w l.low l.high l.entries l.origins l.out) l.i
+
+abbrev pub decreases-loop-i : goal.decreases-loop-i
+decreases-loop-i l = l.count - l.i

@@ -1,7 +1,7 @@
 """A program of this repository beside the oracle, for `compare`, `moves`, `sums`, `figures` and `loads`: how both run, and how a differing
 file is made small.
 
-Programs are target/bin/NAME (`rt check NAME` makes one), the oracle is target/release/oracle (`cargo build --release` in this folder).
+Programs are crates/NAME/out/NAME (`rt run NAME` makes one), the oracle is target/release/oracle (`cargo build --release` in this folder).
 """
 import os
 import pathlib
@@ -13,17 +13,17 @@ import sys
 
 HERE = pathlib.Path(__file__).resolve().parent
 ORACLE = HERE / "target/release/oracle"
-PROGRAMS = HERE.parent / "target/bin"
+CRATES = HERE.parent / "crates"
 
 
 def program(name):
     """The words that run a program. It is compiled for x86-64; on any other machine the kit's emulator runs it, as `rt` does."""
     machine = platform.machine()
     if machine == "x86_64":
-        return [PROGRAMS / name]
+        return [CRATES / name / "out" / name]
     kit = os.environ.get("RATTLE_HOME") or pathlib.Path(shutil.which("rt")).resolve().parent.parent
     tools = pathlib.Path(kit) / "on" / machine / "toolchain"
-    return [tools / "bin/qemu-x86_64", tools / "lib/ld-linux-x86-64.so.2", "--library-path", tools / "lib", PROGRAMS / name]
+    return [tools / "bin/qemu-x86_64", tools / "lib/ld-linux-x86-64.so.2", "--library-path", tools / "lib", CRATES / name / "out" / name]
 
 
 def run(command, data=b"", folder=None):
@@ -73,7 +73,7 @@ def seed_and_count(*names):
     """The two arguments, where both are numbers and all programs are there."""
     if len(sys.argv) != 3 or not all(word.isdigit() for word in sys.argv[1:]):
         sys.exit(f"usage: {pathlib.Path(sys.argv[0]).name} SEED COUNT")
-    for path in (ORACLE, *(PROGRAMS / name for name in names)):
+    for path in (ORACLE, *(CRATES / name / "out" / name for name in names)):
         if not path.exists():
             sys.exit(f"{path} is not there; see the head of {HERE / 'beside.py'}")
     return int(sys.argv[1]), int(sys.argv[2])

@@ -1,5 +1,5 @@
 -- What the DMA unit sees of the registers. Each name is shut, so that whoever cites it is blind to the register file.
-use Rattle.std.specs.Prelude.{ℕ, ◌%◌, set, slice_index_or, slice_set}
+use Rattle.std.specs.Prelude.{ℕ, ◌%◌, slice_index_or, slice_set}
 use Rattle.registers.specs.{Channel.no_channel, declared.Io.Io, declared.channel.DmaChannel.DmaChannel}
 use Rattle.registers.specs.Groups.{with_io-channels, with_io-enables, with_enables_mdmaen}
 use Rattle.bus.specs.World.{World}

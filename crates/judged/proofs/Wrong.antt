@@ -8,7 +8,7 @@ use native.Mathlib.Omega.{arith}
 use lib.Dec.{eqb}
 use lib.ListN.{length, get_or}
 use lib.Seq.{length-take-le}
-use Rattle.bench.specs.Calls.{desk, lent_of, CycleOut, cycle_out, cycle_call, ReadOut, read_out, read_call, WriteOut, write_out, write_call, PlainOut, plain_out, hosted, pad_call, plug_call, answer_call, back_call, fresh_call}
+use Rattle.bench.specs.Calls.{lent_of, CycleOut, cycle_out, cycle_call, ReadOut, read_out, read_call, WriteOut, write_out, write_call, PlainOut, plain_out, hosted, pad_call, plug_call, answer_call, back_call, fresh_call}
 use Rattle.bench.specs.Host.{pad_set, plug_set, answer_set}
 use Rattle.bench.specs.Page.{page_call}
 use Rattle.ring.specs.Slots.{noted}

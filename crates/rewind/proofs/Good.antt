@@ -22,7 +22,7 @@ use Rattle.registers.proofs.{FitGroups.fit-pads, FitGroups.fit-ports}
 use Rattle.registers.specs.Fit.{FitPort, FitIo}
 use Rattle.common.specs.Width.{Byte, Word, Bytes}
 use Rattle.registers.specs.declared.Io.{Io}
-use Rattle.rewind.specs.Rules.{Op, cycle, read, write, pad, plug, answer, Typed, State, world, accessed, changed, obeyed}
+use Rattle.rewind.specs.Rules.{Op, cycle, read, write, pad, plug, answer, Typed, State, accessed, changed, obeyed}
 use Rattle.state.proofs.Ranges.{MachineOk}
 use Rattle.state.specs.Fit.{FitMachine}
 use Rattle.state.specs.declared.Machine.{Machine}

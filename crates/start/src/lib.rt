@@ -1,5 +1,6 @@
 // A bench file before its first row: its check, the RAM fill, a fresh bench, and where its ROM and its script are.
 #![tactic(auto)]
+
 pub mod fill;
 
 ghost use Rattle.std.specs.Prelude.{◌≡◌};

@@ -1,5 +1,5 @@
 -- The counts of the rows say which operations survive: called in order, the first so many of each row are the survivors of the history.
-use Prim.Native.Nat.{ℕ, zero, suc, ◌+◌, ◌%◌, ◌^◌, ◌≤◌, ◌<◌}
+use Prim.Native.Nat.{ℕ, suc, ◌+◌, ◌%◌, ◌^◌, ◌≤◌, ◌<◌}
 use mathlib.Core.Bool.{Bool, true, false}
 use mathlib.Core.List.{List, [], ◌∷◌, ◌++◌, map, map-append, reverse, reverse-cons, reverse-append, reverse-reverse, append_assoc, concat-ne-nil, tail-eq_of_cons-eq}
 use mathlib.Core.Logic.{◌≢◌, inl, inr}
@@ -18,8 +18,8 @@ use Rattle.benchfile.specs.declared.row.Row.{Row}
 use Rattle.benchfile.specs.declared.row.Row.TheVariants.{Cycles, Read, Write, Pad, Plug, Answer as Reply, Back, Broken}
 use Rattle.rewind.specs.History.{Deed, rest, survive, survivors_from, survivors}
 use Rattle.rewind.specs.Rules.{Op}
-use Rattle.rewind.specs.Run.{Call, operation, back, called, made, deed, run, deeds}
-use Rattle.tally.specs.Alive.{latest_of, Rows, rows, joined, struck_at, noted}
+use Rattle.rewind.specs.Run.{Call, operation, called, made, deed, run, deeds}
+use Rattle.tally.specs.Alive.{latest_of, Rows, joined, struck_at, noted}
 use Rattle.tally.specs.Run.{Tallying, count_by, accepted_by, refused_by, call_tallied}
 use Rattle.walk.specs.Call.{Calling, call_of}
 use Rattle.tallied.specs.History.{call_at, first_calls, accepted_of}

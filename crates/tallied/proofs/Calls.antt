@@ -14,7 +14,7 @@ use Rattle.benchfile.specs.Row.{lawful}
 use Rattle.benchfile.specs.declared.row.Row.{Row}
 use Rattle.benchfile.specs.declared.row.Row.TheVariants.{Cycles, Read, Write, Pad, Plug, Answer as Reply, Back, Broken}
 use Rattle.machine.specs.Cycle.{cycled}
-use Rattle.rewind.specs.Run.{back, called, made_at}
+use Rattle.rewind.specs.Run.{called, made_at}
 use Rattle.ring.specs.{Refusal.cycle_number, Slots.noted}
 use Rattle.script.specs.Row.{row_run}
 use Rattle.script.specs.Run.{first_of, first_flag}

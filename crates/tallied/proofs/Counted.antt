@@ -1,5 +1,5 @@
 -- The totals of a script counted are the figures of the operations that its calls made, up to the first that is refused.
-use Prim.Native.Nat.{ℕ, zero}
+use Prim.Native.Nat.{ℕ}
 use mathlib.Core.Bool.{true}
 use mathlib.Core.List.{List, [], ◌∷◌, ◌++◌, map, map-append, append-nil, append_assoc}
 use mathlib.Core.Logic.{◌≢◌}

@@ -1,6 +1,5 @@
 use borrow.Author.Tests.{eq-eqb, ne_eqb}
 use Rattle.start.proofs.Join.{start-broken, start-refused, start-goes}
-use borrow.Author.Rules.{rules}
 use Rattle.start.proofs.begin.Goals as goal
 
 pub returns-then-broken-ne0 : goal.returns-then-broken-ne0

@@ -1,5 +1,4 @@
 use Rattle.wram.specs.Olds.{kept_at}
-use Rattle.std.proofs.Common.{rules}
 use Rattle.wram.proofs.keep_old.Goals as goal
 
 pub returns-in-Nowhere : goal.returns-in-Nowhere

@@ -1,5 +1,5 @@
 use Rattle.wram.specs.Olds.{push_old}
-use Rattle.std.proofs.Common.{rules, le-ltb, lt-ltb}
+use Rattle.std.proofs.Common.{le-ltb, lt-ltb}
 use Rattle.wram.proofs.push_old.Goals as goal
 
 pub returns-then-n-lt4 : goal.returns-then-n-lt4

@@ -1,6 +1,5 @@
-use Rattle.std.proofs.Common.{refl, rules}
 use Rattle.wram.specs.Banks.{banks}
-use Rattle.wram.proofs.Undo.{Going, going_start, going_next, going_end}
+use Rattle.wram.proofs.Undo.{Going}
 use Rattle.wram.proofs.put_back.Given as goal
 
 abbrev pub invariant-loop-n : goal.invariant-loop-n

@@ -1,5 +1,4 @@
 use Rattle.bus.specs.Access.{opened}
-use Rattle.std.proofs.Common.{rules}
 use Rattle.bus.proofs.access.opened_core.Goals as goal
 
 pub returns : goal.returns

@@ -1,5 +1,5 @@
 use Rattle.bus.specs.Access.{push_access}
-use Rattle.std.proofs.Common.{rules, le-ltb, lt-ltb}
+use Rattle.std.proofs.Common.{le-ltb, lt-ltb}
 use Rattle.bus.proofs.access.push_access.Goals as goal
 
 pub returns-then-n-lt11 : goal.returns-then-n-lt11

@@ -1,5 +1,4 @@
 use Rattle.bus.proofs.{Join.read_by}
-use Rattle.std.proofs.Common.{rules}
 use Rattle.bus.proofs.access.read.Goals as goal
 
 pub returns : goal.returns

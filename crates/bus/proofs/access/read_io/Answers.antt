@@ -1,5 +1,4 @@
 use Rattle.bus.specs.Access.{register_read}
-use Rattle.std.proofs.Common.{rules}
 use Rattle.bus.proofs.access.read_io.Goals as goal
 
 pub returns-in-Bank7E : goal.returns-in-Bank7E

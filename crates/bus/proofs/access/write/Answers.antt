@@ -1,5 +1,4 @@
 use Rattle.bus.proofs.{Join.write-by}
-use Rattle.std.proofs.Common.{rules}
 use Rattle.bus.proofs.access.write.Goals as goal
 
 pub returns : goal.returns

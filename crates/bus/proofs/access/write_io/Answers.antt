@@ -1,5 +1,4 @@
 use Rattle.bus.specs.Access.{io_written}
-use Rattle.std.proofs.Common.{rules}
 use Rattle.bus.proofs.access.write_io.Goals as goal
 
 pub returns-in-Bank7E : goal.returns-in-Bank7E

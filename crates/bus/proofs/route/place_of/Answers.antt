@@ -1,5 +1,4 @@
 use Rattle.bus.specs.Route.{place_of}
-use Rattle.std.proofs.Common.{rules}
 use Rattle.bus.proofs.route.place_of.Goals as goal
 
 pub returns-in-Bank7E : goal.returns-in-Bank7E

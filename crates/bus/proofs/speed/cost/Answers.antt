@@ -1,5 +1,5 @@
 use Rattle.bus.specs.Route.{cost_of}
-use Rattle.std.proofs.Common.{sym, ◌∙◌, rules}
+use Rattle.std.proofs.Common.{sym, ◌∙◌}
 use Rattle.bus.proofs.speed.cost.Goals as goal
 
 pub returns-in-Bank7E : goal.returns-in-Bank7E

@@ -1,4 +1,4 @@
-use Rattle.std.proofs.Common.{refl, rules}
+use Rattle.std.proofs.Common.{refl}
 use Rattle.bus.specs.View.{channel_of}
 use Rattle.bus.proofs.view.channel_of.Goals as goal
 

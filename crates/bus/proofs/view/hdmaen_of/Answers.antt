@@ -1,6 +1,5 @@
 use Rattle.std.proofs.Common.{refl}
 use Rattle.bus.specs.View.{hdmaen_of}
-use Rattle.std.proofs.Common.{rules}
 use Rattle.bus.proofs.view.hdmaen_of.Goals as goal
 
 pub returns : goal.returns

@@ -1,6 +1,5 @@
 use Rattle.std.proofs.Common.{refl}
 use Rattle.bus.specs.View.{mdmaen_of}
-use Rattle.std.proofs.Common.{rules}
 use Rattle.bus.proofs.view.mdmaen_of.Goals as goal
 
 pub returns : goal.returns

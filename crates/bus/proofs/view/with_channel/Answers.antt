@@ -1,4 +1,4 @@
-use Rattle.std.proofs.Common.{refl, rules}
+use Rattle.std.proofs.Common.{refl}
 use Rattle.bus.specs.View.{with_channel}
 use Rattle.bus.proofs.view.with_channel.Goals as goal
 

@@ -1,6 +1,5 @@
 use Rattle.std.proofs.Common.{refl}
 use Rattle.bus.specs.View.{with_mdmaen}
-use Rattle.std.proofs.Common.{rules}
 use Rattle.bus.proofs.view.with_mdmaen.Goals as goal
 
 pub returns : goal.returns

@@ -1,5 +1,4 @@
 use Rattle.dma.proofs.Join.{act-idle, act_startup, act-general, act_pass}
-use Rattle.std.proofs.Common.{rules}
 use Rattle.dma.proofs.cycle.act.Goals as goal
 
 pub returns-in-Idle : goal.returns-in-Idle

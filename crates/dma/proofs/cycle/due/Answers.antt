@@ -1,6 +1,5 @@
 use Rattle.std.proofs.Common.{refl}
 use Rattle.dma.specs.Cycle.{due_of}
-use Rattle.std.proofs.Common.{rules}
 use Rattle.dma.proofs.cycle.due.Goals as goal
 
 pub returns : goal.returns

@@ -1,5 +1,5 @@
 use Rattle.dma.specs.Cycle.{start_pending}
-use Rattle.std.proofs.Common.{rules, eq-eqb, ne_eqb}
+use Rattle.std.proofs.Common.{eq-eqb, ne_eqb}
 use Rattle.dma.proofs.cycle.start_pending_dma.Goals as goal
 
 pub returns-then-d : goal.returns-then-d

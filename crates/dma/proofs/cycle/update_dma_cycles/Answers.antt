@@ -1,5 +1,5 @@
 use Rattle.dma.proofs.Join.{cycle-takeover, cycle-wait, cycle-act}
-use Rattle.std.proofs.Common.{rules, le-ltb, lt-ltb}
+use Rattle.std.proofs.Common.{le-ltb, lt-ltb}
 use Rattle.dma.proofs.cycle.update_dma_cycles.Goals as goal
 
 pub returns-then-due : goal.returns-then-due

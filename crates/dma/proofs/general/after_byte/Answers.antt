@@ -1,5 +1,5 @@
 use Rattle.dma.proofs.{Join.after_last, Join.after_more}
-use Rattle.std.proofs.Common.{rules, eq-eqb, ne_eqb}
+use Rattle.std.proofs.Common.{eq-eqb, ne_eqb}
 use Rattle.dma.proofs.general.after_byte.Goals as goal
 
 pub returns-then-das-eq0 : goal.returns-then-das-eq0

@@ -1,5 +1,5 @@
 use Rattle.dma.specs.General.{chosen}
-use Rattle.std.proofs.Common.{rules, eq-eqb, ne_eqb}
+use Rattle.std.proofs.Common.{eq-eqb, ne_eqb}
 use Rattle.dma.proofs.general.choose.Goals as goal
 
 pub returns-then-mask-eq0 : goal.returns-then-mask-eq0

@@ -1,5 +1,4 @@
 use Rattle.dma.proofs.{Join.step-none, Join.step-byte}
-use Rattle.std.proofs.Common.{rules}
 use Rattle.dma.proofs.general.dma_step.Goals as goal
 
 pub returns-in_default : goal.returns-in_default

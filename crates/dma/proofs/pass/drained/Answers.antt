@@ -1,5 +1,4 @@
 use Rattle.dma.specs.Pass.{drained_of}
-use Rattle.std.proofs.Common.{rules}
 use Rattle.dma.proofs.pass.drained.Goals as goal
 
 pub returns-then-d : goal.returns-then-d

@@ -1,5 +1,5 @@
 use Rattle.dma.proofs.Join.{pass_drained, pass_init, pass_line}
-use Rattle.std.proofs.Common.{rules, eq-eqb, ne_eqb}
+use Rattle.std.proofs.Common.{eq-eqb, ne_eqb}
 use Rattle.dma.proofs.pass.hdma_step.Goals as goal
 
 pub returns-then-queue-eq0 : goal.returns-then-queue-eq0

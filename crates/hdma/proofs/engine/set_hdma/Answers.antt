@@ -1,6 +1,5 @@
 use mathlib.Core.Path.{refl}
 use Rattle.hdma.specs.Engine.{set_hdma}
-use borrow.Author.Rules.{rules}
 use Rattle.hdma.proofs.engine.set_hdma.Goals as goal
 
 pub returns : goal.returns

@@ -1,6 +1,5 @@
 use Rattle.hdma.proofs.{Join.counted-on, Join.counted_off}
 use mathlib.Core.Path.{sym, ◌∙◌}
-use borrow.Author.Rules.{rules}
 use Rattle.hdma.proofs.entry.count_line.Goals as goal
 
 pub returns-then-flag : goal.returns-then-flag

@@ -1,6 +1,5 @@
 use Rattle.hdma.proofs.Join.{init-none, init-indirect, init-direct}
 use borrow.Author.Tests.{eq-eqb, ne_eqb}
-use borrow.Author.Rules.{rules}
 use Rattle.hdma.proofs.entry.init_channel.Goals as goal
 
 pub returns-then-counter-eq0 : goal.returns-then-counter-eq0

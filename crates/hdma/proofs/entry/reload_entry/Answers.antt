@@ -1,7 +1,6 @@
 use Rattle.hdma.proofs.Join.{reload_run, reload_stop, reload_indirect, reload_direct}
 use mathlib.Core.Path.{sym, ◌∙◌}
 use borrow.Author.Tests.{eq-eqb, ne_eqb}
-use borrow.Author.Rules.{rules}
 use Rattle.hdma.proofs.entry.reload_entry.Goals as goal
 
 pub returns-then-flag : goal.returns-then-flag

@@ -1,5 +1,4 @@
 use Rattle.hdma.proofs.Join.{line-done, line-stop, line-sent, line-held}
-use borrow.Author.Rules.{rules}
 use Rattle.hdma.proofs.line.line_channel.Goals as goal
 
 pub returns-then-h : goal.returns-then-h

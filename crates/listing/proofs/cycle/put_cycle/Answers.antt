@@ -1,5 +1,4 @@
 use Rattle.listing.proofs.{Join.cycle-joined}
-use borrow.Author.Rules.{rules}
 use Rattle.listing.proofs.cycle.put_cycle.Goals as goal
 
 pub returns : goal.returns

@@ -1,6 +1,5 @@
 use Rattle.listing.proofs.Join.{edge_none, edge-left, edge-joined}
 use borrow.Author.Tests.{eq-eqb, ne_eqb}
-use borrow.Author.Rules.{rules}
 use Rattle.listing.proofs.cycle.put_edge.Goals as goal
 
 pub returns-then-not-edge : goal.returns-then-not-edge

@@ -1,11 +1,6 @@
-use Rattle.listing.specs.Cycle.{accesses_from}
-use lib.ListN.{length}
-use Prim.Native.Nat.{◌-◌, ◌≤◌}
 use Rattle.listing.proofs.Loop.{accesses-next, accesses-end, accesses-all}
-use Rattle.append.specs.Sheet.{sheet, puts}
 use native.Mathlib.Omega.{arith}
-use mathlib.Core.Path.{◌≡◌, refl, ◌∙◌}
-use Rattle.std.proofs.Common.{rules}
+use mathlib.Core.Path.{refl, ◌∙◌}
 use Rattle.listing.proofs.cycle.put_log.Goals as goal
 
 pub loop-i-preserved : goal.loop-i-preserved

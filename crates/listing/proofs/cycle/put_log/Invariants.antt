@@ -1,10 +1,8 @@
 use Rattle.listing.specs.Cycle.{accesses_from}
 use lib.ListN.{length}
 use Prim.Native.Nat.{◌-◌, ◌≤◌}
-use Rattle.listing.proofs.Loop.{accesses-next, accesses-end, accesses-all}
 use Rattle.append.specs.Sheet.{sheet, puts}
-use native.Mathlib.Omega.{arith}
-use mathlib.Core.Path.{◌≡◌, refl, ◌∙◌}
+use mathlib.Core.Path.{◌≡◌}
 use Rattle.listing.proofs.cycle.put_log.Given as goal
 
 abbrev pub invariant-loop-i : goal.invariant-loop-i

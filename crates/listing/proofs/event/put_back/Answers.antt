@@ -1,6 +1,5 @@
 use Rattle.listing.proofs.{Join.back_none, Join.back-joined}
 use borrow.Author.Tests.{eq-eqb, ne_eqb}
-use borrow.Author.Rules.{rules}
 use Rattle.listing.proofs.event.put_back.Goals as goal
 
 pub returns-then-steps-eq0 : goal.returns-then-steps-eq0

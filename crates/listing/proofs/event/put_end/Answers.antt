@@ -1,6 +1,5 @@
 use Rattle.listing.proofs.Join.{end_refused, end_none, end-held}
 use borrow.Author.Tests.{eq-eqb, ne_eqb, lt-ltb, le-ltb}
-use borrow.Author.Rules.{rules}
 use Rattle.listing.proofs.event.put_end.Goals as goal
 
 pub returns-then-number-ne0 : goal.returns-then-number-ne0

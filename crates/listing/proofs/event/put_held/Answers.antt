@@ -1,6 +1,5 @@
 use Rattle.listing.proofs.{Join.held_none, Join.held-joined}
 use borrow.Author.Tests.{eq-eqb, ne_eqb}
-use borrow.Author.Rules.{rules}
 use Rattle.listing.proofs.event.put_held.Goals as goal
 
 pub returns-then-only-ne131072 : goal.returns-then-only-ne131072

@@ -1,6 +1,5 @@
 use Rattle.listing.proofs.{Join.origin_first, Join.origin_later}
 use borrow.Author.Tests.{eq-eqb, ne_eqb}
-use borrow.Author.Rules.{rules}
 use Rattle.listing.proofs.event.put_origin.Goals as goal
 
 pub returns-then-cycle-eq0 : goal.returns-then-cycle-eq0

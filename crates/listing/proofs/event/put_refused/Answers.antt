@@ -1,6 +1,5 @@
 use Rattle.listing.proofs.{Join.refused_none, Join.refused-joined}
 use borrow.Author.Tests.{eq-eqb, ne_eqb}
-use borrow.Author.Rules.{rules}
 use Rattle.listing.proofs.event.put_refused.Goals as goal
 
 pub returns-then-number-eq0 : goal.returns-then-number-eq0

@@ -1,5 +1,4 @@
 use Rattle.listing.proofs.{Join.head-joined}
-use borrow.Author.Rules.{rules}
 use Rattle.listing.proofs.line.head.Goals as goal
 
 pub returns : goal.returns

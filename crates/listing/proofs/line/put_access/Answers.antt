@@ -1,5 +1,4 @@
 use Rattle.listing.proofs.{Join.access-none, Join.access-joined}
-use borrow.Author.Rules.{rules}
 use Rattle.listing.proofs.line.put_access.Goals as goal
 
 pub returns-then-not-l-r : goal.returns-then-not-l-r

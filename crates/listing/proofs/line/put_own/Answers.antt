@@ -1,6 +1,5 @@
 use Rattle.append.proofs.Laws.{puts_none}
 use mathlib.Core.Path.{sym}
-use borrow.Author.Rules.{rules}
 use Rattle.listing.proofs.line.put_own.Goals as goal
 
 pub returns : goal.returns

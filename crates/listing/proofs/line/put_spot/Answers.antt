@@ -1,7 +1,6 @@
 use Rattle.append.proofs.Laws.{puts_none}
 use mathlib.Core.Path.{sym}
-use borrow.Author.Tests.{lt-ltb, le-ltb}
-use borrow.Author.Rules.{rules}
+use borrow.Author.Tests.{le-ltb}
 use Rattle.listing.proofs.line.put_spot.Goals as goal
 
 pub returns : goal.returns

@@ -1,6 +1,5 @@
 use Rattle.machine.specs.Cycle.{armed}
 use Rattle.std.proofs.Common.{eq-eqb, ne_eqb}
-use Rattle.std.proofs.Common.{rules}
 use Rattle.machine.proofs.cycle.arm.Goals as goal
 
 pub returns-then-mask-eq0 : goal.returns-then-mask-eq0

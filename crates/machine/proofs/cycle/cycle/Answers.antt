@@ -1,5 +1,4 @@
 use Rattle.machine.proofs.{Join.cycle-by}
-use Rattle.std.proofs.Common.{rules}
 use Rattle.machine.proofs.cycle.cycle.Goals as goal
 
 pub returns : goal.returns

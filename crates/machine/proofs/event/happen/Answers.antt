@@ -1,5 +1,4 @@
 use Rattle.machine.specs.Event.{evented}
-use Rattle.std.proofs.Common.{rules}
 use Rattle.machine.proofs.event.happen.Goals as goal
 
 pub returns-in-Nothing : goal.returns-in-Nothing

@@ -1,5 +1,4 @@
 use Rattle.machine.specs.Event.{frame_started}
-use Rattle.std.proofs.Common.{rules}
 use Rattle.machine.proofs.event.on_frame_start.Goals as goal
 
 pub returns : goal.returns

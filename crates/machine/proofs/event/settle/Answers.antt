@@ -1,5 +1,4 @@
 use Rattle.machine.specs.Event.{settled}
-use Rattle.std.proofs.Common.{rules}
 use Rattle.machine.proofs.event.settle.Goals as goal
 
 pub returns : goal.returns

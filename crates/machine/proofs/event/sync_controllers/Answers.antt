@@ -1,5 +1,4 @@
 use Rattle.machine.specs.Event.{pressed}
-use Rattle.std.proofs.Common.{rules}
 use Rattle.machine.proofs.event.sync_controllers.Goals as goal
 
 pub returns : goal.returns

@@ -1,5 +1,4 @@
 use Rattle.machine.specs.PowerOn.{power_on_machine}
-use Rattle.std.proofs.Common.{rules}
 use Rattle.machine.proofs.power_on.power_on_machine.Goals as goal
 
 pub returns : goal.returns

@@ -1,7 +1,5 @@
-use Rattle.player_abi.proofs.{Join.cycle-by, Join.left_by}
 use Rattle.inplace.proofs.{OneByteLaws.carry-crossed, RestLaws.rest-crossed}
 use Rattle.way.proofs.Ready.{all-bytes}
-use borrow.Author.Rules.{rules}
 use Rattle.player_abi.proofs.calls.cloverwain_cycle.Goals as goal
 
 pub returns-then-way-eq1 : goal.returns-then-way-eq1

@@ -1,5 +1,5 @@
 use Rattle.script.proofs.{Join.back_stopped, Join.back-goes}
-use Rattle.std.proofs.Common.{rules, eq-eqb, ne_eqb}
+use Rattle.std.proofs.Common.{eq-eqb, ne_eqb}
 use Rattle.script.proofs.repeat.back_step.Goals as goal
 
 pub returns-then-s-ne0 : goal.returns-then-s-ne0

@@ -1,5 +1,5 @@
 use Rattle.script.proofs.{Join.cycle_stopped, Join.cycle-goes}
-use Rattle.std.proofs.Common.{rules, eq-eqb, ne_eqb}
+use Rattle.std.proofs.Common.{eq-eqb, ne_eqb}
 use Rattle.script.proofs.repeat.cycle_step.Goals as goal
 
 pub returns-then-s-ne0 : goal.returns-then-s-ne0

@@ -1,10 +1,7 @@
 use Rattle.common.proofs.AllLaws.{◌also◌}
-use Rattle.script.proofs.Loop.{Going, going_start, going_on, going_end}
-use Rattle.script.proofs.{Join.slices_of}
-use Rattle.script.specs.Run.{Running, ran, start, back_step, backs_run}
-use Rattle.bench.specs.Calls.{desk}
-use Rattle.std.proofs.Common.{◌-◌, refl, arith}
-use Rattle.std.proofs.Common.{rules}
+use Rattle.script.proofs.Loop.{going_start, going_on}
+use Rattle.script.specs.Run.{back_step, backs_run}
+use Rattle.std.proofs.Common.{refl}
 use Rattle.script.proofs.repeat.run_backs.Goals as goal
 
 pub loop-i-init : goal.loop-i-init

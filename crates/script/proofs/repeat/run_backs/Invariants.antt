@@ -1,9 +1,8 @@
-use Rattle.common.proofs.AllLaws.{◌also◌}
-use Rattle.script.proofs.Loop.{Going, going_start, going_on, going_end}
+use Rattle.script.proofs.Loop.{Going}
 use Rattle.script.proofs.{Join.slices_of}
-use Rattle.script.specs.Run.{Running, ran, start, back_step, backs_run}
+use Rattle.script.specs.Run.{Running, ran, start, backs_run}
 use Rattle.bench.specs.Calls.{desk}
-use Rattle.std.proofs.Common.{◌-◌, refl, arith}
+use Rattle.std.proofs.Common.{◌-◌}
 use Rattle.script.proofs.repeat.run_backs.Given as goal
 
 abbrev pub invariant-loop-i : goal.invariant-loop-i

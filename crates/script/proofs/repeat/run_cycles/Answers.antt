@@ -1,10 +1,8 @@
 use Rattle.common.proofs.AllLaws.{◌also◌}
-use Rattle.script.proofs.Loop.{Going, going_start, going_on, going_end}
-use Rattle.script.proofs.{Join.slices_of, Join.cycle-with}
-use Rattle.script.specs.Run.{Running, ran, start, cycle_step, cycles_run}
-use Rattle.bench.specs.Calls.{desk}
-use Rattle.std.proofs.Common.{◌-◌, refl, arith}
-use Rattle.std.proofs.Common.{rules}
+use Rattle.script.proofs.Loop.{going_start, going_on}
+use Rattle.script.proofs.{Join.cycle-with}
+use Rattle.script.specs.Run.{cycle_step, cycles_run}
+use Rattle.std.proofs.Common.{refl}
 use Rattle.script.proofs.repeat.run_cycles.Goals as goal
 
 pub loop-i-init : goal.loop-i-init

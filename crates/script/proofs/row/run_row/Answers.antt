@@ -1,5 +1,4 @@
 use Rattle.script.proofs.Join.{row-cycles, row_read, row_write, row-pad, row-plug, row-answer, row_back, row-broken}
-use Rattle.std.proofs.Common.{rules}
 use Rattle.script.proofs.row.run_row.Goals as goal
 
 pub returns-in-Cycles : goal.returns-in-Cycles

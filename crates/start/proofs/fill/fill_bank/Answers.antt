@@ -1,12 +1,7 @@
-use Prim.Native.Nat.{◌-◌, ◌≤◌}
-use mathlib.Core.List.{◌++◌}
-use mathlib.Core.Path.{◌≡◌, refl}
-use native.Mathlib.Nat.{mod-lt}
+use mathlib.Core.Path.{refl}
 use native.Mathlib.Omega.{arith}
-use lib.ListN.{length, drop, length-set}
-use Rattle.start.specs.Fill.{repeated}
+use lib.ListN.{length-set}
 use Rattle.start.proofs.Repeat.{fill_start, fill_more, fill_end, fill-empty}
-use Rattle.std.proofs.Common.{rules}
 use Rattle.start.proofs.fill.fill_bank.Goals as goal
 
 pub returns-then-fill-eq0 : goal.returns-then-fill-eq0

@@ -1,11 +1,8 @@
 use Prim.Native.Nat.{◌-◌, ◌≤◌}
 use mathlib.Core.List.{◌++◌}
-use mathlib.Core.Path.{◌≡◌, refl}
-use native.Mathlib.Nat.{mod-lt}
-use native.Mathlib.Omega.{arith}
-use lib.ListN.{length, drop, length-set}
+use mathlib.Core.Path.{◌≡◌}
+use lib.ListN.{length, drop}
 use Rattle.start.specs.Fill.{repeated}
-use Rattle.start.proofs.Repeat.{fill_start, fill_more, fill_end, fill-empty}
 use Rattle.start.proofs.fill.fill_bank.Given as goal
 
 abbrev pub invariant-loop-i : goal.invariant-loop-i

@@ -1,6 +1,5 @@
-use Rattle.std.proofs.Common.{◌≡◌, ℕ, zero, suc, ◌-◌, ◌<◌, ◌≢◌, List, get_or, sym, refl, ◌∙◌, arith, eq-eqb, ne_eqb}
+use Rattle.std.proofs.Common.{◌≡◌, ℕ, zero, suc, ◌-◌, ◌<◌, ◌≢◌, List, get_or, sym, ◌∙◌, arith, eq-eqb, ne_eqb}
 use Rattle.tally.specs.Alive.{latest_of}
-use Rattle.std.proofs.Common.{rules}
 use Rattle.tally.proofs.alive.latest.Goals as goal
 
 module _ (l : List ℕ) where

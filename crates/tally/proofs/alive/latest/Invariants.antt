@@ -1,4 +1,4 @@
-use Rattle.std.proofs.Common.{◌≡◌, ℕ, zero, suc, ◌-◌, ◌<◌, ◌≢◌, List, get_or, sym, refl, ◌∙◌, arith, eq-eqb, ne_eqb}
+use Rattle.std.proofs.Common.{◌≡◌}
 use Rattle.tally.specs.Alive.{latest_of}
 use Rattle.tally.proofs.alive.latest.Given as goal
 

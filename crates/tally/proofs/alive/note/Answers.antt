@@ -1,4 +1,3 @@
-use Rattle.std.proofs.Common.{rules}
 use Rattle.tally.proofs.Join.{note-struck, note-joined}
 use Rattle.tally.proofs.alive.note.Goals as goal
 

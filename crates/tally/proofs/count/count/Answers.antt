@@ -1,4 +1,3 @@
-use Rattle.std.proofs.Common.{◌∙◌, rules}
 use Rattle.tally.proofs.Totals.{count-passes, count-goes}
 use Rattle.tally.proofs.count.count.Goals as goal
 

@@ -1,4 +1,4 @@
-use Rattle.std.proofs.Common.{refl, rules}
+use Rattle.std.proofs.Common.{refl}
 use Rattle.tally.proofs.Join.{file-counted}
 use Rattle.tally.proofs.file.count_file.Goals as goal
 

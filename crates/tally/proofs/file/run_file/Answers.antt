@@ -1,6 +1,5 @@
-use Rattle.std.proofs.Common.{◌∙◌, eq-eqb, ne_eqb}
+use Rattle.std.proofs.Common.{eq-eqb, ne_eqb}
 use Rattle.tally.proofs.Join.{file-refused, file-ran}
-use Rattle.std.proofs.Common.{rules}
 use Rattle.tally.proofs.file.run_file.Goals as goal
 
 pub returns-then-s-ne0 : goal.returns-then-s-ne0

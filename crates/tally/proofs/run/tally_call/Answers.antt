@@ -1,6 +1,5 @@
 use Rattle.std.proofs.Common.{eq-eqb, ne_eqb}
 use Rattle.tally.proofs.Join.{tally_refused, tally_accepted}
-use Rattle.std.proofs.Common.{rules}
 use Rattle.tally.proofs.run.tally_call.Goals as goal
 
 pub returns-then-answer-ne0 : goal.returns-then-answer-ne0

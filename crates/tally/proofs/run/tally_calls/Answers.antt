@@ -1,9 +1,7 @@
 use Rattle.common.proofs.AllLaws.{◌also◌}
-use Rattle.script.proofs.Loop.{Going, going_start, going_on, going_end}
-use Rattle.tally.specs.Run.{tallying, step_tallied, calls_tallied}
-use Rattle.tally.proofs.Join.{lent_slices}
-use Rattle.std.proofs.Common.{◌-◌, refl, arith}
-use Rattle.std.proofs.Common.{rules}
+use Rattle.script.proofs.Loop.{going_start, going_on}
+use Rattle.tally.specs.Run.{step_tallied, calls_tallied}
+use Rattle.std.proofs.Common.{refl}
 use Rattle.tally.proofs.run.tally_calls.Goals as goal
 
 pub loop-i-init : goal.loop-i-init

@@ -1,8 +1,7 @@
-use Rattle.common.proofs.AllLaws.{◌also◌}
-use Rattle.script.proofs.Loop.{Going, going_start, going_on, going_end}
-use Rattle.tally.specs.Run.{tallying, step_tallied, calls_tallied}
+use Rattle.script.proofs.Loop.{Going}
+use Rattle.tally.specs.Run.{tallying, calls_tallied}
 use Rattle.tally.proofs.Join.{lent_slices}
-use Rattle.std.proofs.Common.{◌-◌, refl, arith}
+use Rattle.std.proofs.Common.{◌-◌}
 use Rattle.tally.proofs.run.tally_calls.Given as goal
 
 abbrev pub invariant-loop-i : goal.invariant-loop-i

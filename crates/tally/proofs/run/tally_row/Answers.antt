@@ -1,6 +1,5 @@
 use Rattle.std.proofs.Common.{eq-eqb, ne_eqb}
 use Rattle.tally.proofs.Join.{row_stopped, row_goes}
-use Rattle.std.proofs.Common.{rules}
 use Rattle.tally.proofs.run.tally_row.Goals as goal
 
 pub returns-then-t-ne0 : goal.returns-then-t-ne0

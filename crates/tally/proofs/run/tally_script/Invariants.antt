@@ -1,8 +1,7 @@
-use Rattle.common.proofs.AllLaws.{◌also◌}
-use Rattle.script.proofs.Loop.{Going, going_start, going_on, going_end}
-use Rattle.tally.specs.Run.{tallying, row_tallied, rows_tallied}
+use Rattle.script.proofs.Loop.{Going}
+use Rattle.tally.specs.Run.{tallying, rows_tallied}
 use Rattle.tally.proofs.Join.{lent_slices}
-use Rattle.std.proofs.Common.{◌-◌, refl, arith}
+use Rattle.std.proofs.Common.{◌-◌}
 use Rattle.tally.proofs.run.tally_script.Given as goal
 
 abbrev pub invariant-loop-row : goal.invariant-loop-row

@@ -1,4 +1,3 @@
-use Rattle.std.proofs.Common.{rules}
 use Rattle.tally.proofs.Join.{share-joined}
 use Rattle.tally.proofs.share.share_of.Goals as goal
 

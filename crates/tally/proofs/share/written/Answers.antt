@@ -1,6 +1,5 @@
-use Rattle.std.proofs.Common.{◌-◌, ◌≤◌, get_or, refl, arith, rules}
-use Rattle.bus.specs.Access.{no_access}
-use Rattle.tally.proofs.Writes.{Seen, seen_none, seen_more, seen-room, seen_all}
+use Rattle.std.proofs.Common.{refl, arith}
+use Rattle.tally.proofs.Writes.{seen_none, seen_more}
 use Rattle.tally.proofs.share.written.Goals as goal
 
 pub loop-i-init : goal.loop-i-init

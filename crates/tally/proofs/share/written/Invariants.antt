@@ -1,6 +1,5 @@
-use Rattle.std.proofs.Common.{◌-◌, ◌≤◌, get_or, refl, arith, rules}
-use Rattle.bus.specs.Access.{no_access}
-use Rattle.tally.proofs.Writes.{Seen, seen_none, seen_more, seen-room, seen_all}
+use Rattle.std.proofs.Common.{◌-◌, ◌≤◌}
+use Rattle.tally.proofs.Writes.{Seen}
 use Rattle.tally.proofs.share.written.Given as goal
 
 abbrev pub invariant-loop-i : goal.invariant-loop-i

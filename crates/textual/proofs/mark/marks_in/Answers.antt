@@ -1,10 +1,6 @@
-use Prim.Native.Nat.{◌-◌}
-use mathlib.Core.Path.{◌≡◌, refl, sym, ◌∙◌}
-use native.Mathlib.Omega.{arith}
-use lib.ListN.{length, drop}
-use Rattle.textual.specs.Mark.{marks_from, marks_of}
+use mathlib.Core.Path.{refl, sym, ◌∙◌}
+use Rattle.textual.specs.Mark.{marks_of}
 use Rattle.textual.proofs.{Marks.marks_next, Marks.marks_end}
-use Rattle.std.proofs.Common.{rules}
 use Rattle.textual.proofs.mark.marks_in.Goals as goal
 
 pub loop-i-init : goal.loop-i-init

@@ -1,9 +1,7 @@
 use Prim.Native.Nat.{◌-◌}
-use mathlib.Core.Path.{◌≡◌, refl, sym, ◌∙◌}
-use native.Mathlib.Omega.{arith}
+use mathlib.Core.Path.{◌≡◌}
 use lib.ListN.{length, drop}
 use Rattle.textual.specs.Mark.{marks_from, marks_of}
-use Rattle.textual.proofs.{Marks.marks_next, Marks.marks_end}
 use Rattle.textual.proofs.mark.marks_in.Given as goal
 
 abbrev pub invariant-loop-i : goal.invariant-loop-i

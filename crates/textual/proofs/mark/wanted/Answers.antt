@@ -1,5 +1,4 @@
 use Rattle.textual.specs.Mark.{wanted_of}
-use borrow.Author.Rules.{rules}
 use Rattle.textual.proofs.mark.wanted.Goals as goal
 
 pub returns-then-inside : goal.returns-then-inside

@@ -1,5 +1,4 @@
 use Rattle.touch.specs.Reach.{reach_of, wm_after}
-use borrow.Author.Rules.{rules}
 use Rattle.touch.proofs.reach.reached.Goals as goal
 
 pub returns : goal.returns

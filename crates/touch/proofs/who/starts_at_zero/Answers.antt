@@ -1,5 +1,4 @@
 use Rattle.touch.specs.Who.{starts_at_zero}
-use borrow.Author.Rules.{rules}
 use Rattle.touch.proofs.who.starts_at_zero.Goals as goal
 
 pub returns-in-Idle : goal.returns-in-Idle

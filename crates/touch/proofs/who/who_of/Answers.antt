@@ -1,5 +1,4 @@
 use Rattle.touch.specs.Who.{who_of}
-use borrow.Author.Rules.{rules}
 use Rattle.touch.proofs.who.who_of.Goals as goal
 
 pub returns-in-Idle : goal.returns-in-Idle

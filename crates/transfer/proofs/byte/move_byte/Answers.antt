@@ -1,5 +1,4 @@
 use Rattle.transfer.proofs.{Join.moved_by}
-use Rattle.std.proofs.Common.{rules}
 use Rattle.transfer.proofs.byte.move_byte.Goals as goal
 
 pub returns : goal.returns

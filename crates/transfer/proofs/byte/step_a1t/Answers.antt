@@ -1,5 +1,4 @@
 use Rattle.transfer.proofs.{Join.step_by_lem}
-use Rattle.std.proofs.Common.{rules}
 use Rattle.transfer.proofs.byte.step_a1t.Goals as goal
 
 pub returns : goal.returns

@@ -1,5 +1,4 @@
 use Rattle.transfer.proofs.{Join.transfer-by}
-use Rattle.std.proofs.Common.{rules}
 use Rattle.transfer.proofs.byte.transfer_byte.Goals as goal
 
 pub returns : goal.returns

@@ -1,4 +1,4 @@
-use Rattle.std.proofs.Common.{sym, ◌∙◌, rules}
+use Rattle.std.proofs.Common.{sym, ◌∙◌}
 use Rattle.transfer.specs.Byte.{trip_of}
 use Rattle.transfer.proofs.byte.trip_of.Goals as goal
 

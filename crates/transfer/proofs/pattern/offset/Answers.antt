@@ -1,4 +1,4 @@
-use Rattle.std.proofs.Common.{◌≡◌, ◌%◌, inl, inr, ⊎_elim, rules, ne_eqb}
+use Rattle.std.proofs.Common.{◌≡◌, ◌%◌, inl, inr, ⊎_elim, ne_eqb}
 use Rattle.transfer.specs.Pattern.{offset_of}
 use Rattle.transfer.proofs.pattern.offset.Goals as goal
 

@@ -1,6 +1,5 @@
 use Rattle.std.proofs.Common.{ne_eqb}
 use Rattle.transfer.specs.Pattern.{unit_len}
-use Rattle.std.proofs.Common.{rules}
 use Rattle.transfer.proofs.pattern.unit_len.Goals as goal
 
 pub returns-in-0 : goal.returns-in-0

@@ -1,5 +1,4 @@
 use Rattle.transfer.proofs.{Join.das-by}
-use Rattle.std.proofs.Common.{rules}
 use Rattle.transfer.proofs.table.load_das.Goals as goal
 
 pub returns : goal.returns

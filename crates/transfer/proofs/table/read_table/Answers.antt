@@ -1,5 +1,4 @@
 use Rattle.transfer.proofs.{Join.read_by}
-use Rattle.std.proofs.Common.{rules}
 use Rattle.transfer.proofs.table.read_table.Goals as goal
 
 pub returns : goal.returns

@@ -1,7 +1,4 @@
-use Rattle.transfer.proofs.Sending.{Sending, sending-none, sending-more, sending-all}
-use Rattle.bus.specs.World.{world}
-use Rattle.std.proofs.Common.{◌-◌, arith}
-use Rattle.std.proofs.Common.{rules}
+use Rattle.transfer.proofs.Sending.{sending-none, sending-more}
 use Rattle.transfer.proofs.unit.send_bytes.Goals as goal
 
 pub loop-i-init : goal.loop-i-init

@@ -1,6 +1,6 @@
-use Rattle.transfer.proofs.Sending.{Sending, sending-none, sending-more, sending-all}
+use Rattle.transfer.proofs.Sending.{Sending}
 use Rattle.bus.specs.World.{world}
-use Rattle.std.proofs.Common.{◌-◌, arith}
+use Rattle.std.proofs.Common.{◌-◌}
 use Rattle.transfer.proofs.unit.send_bytes.Given as goal
 
 abbrev pub invariant-loop-i : goal.invariant-loop-i

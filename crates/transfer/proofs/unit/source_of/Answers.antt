@@ -1,5 +1,4 @@
 use Rattle.transfer.specs.Unit.{source_of}
-use Rattle.std.proofs.Common.{rules}
 use Rattle.transfer.proofs.unit.source_of.Goals as goal
 
 pub returns-then-indirect : goal.returns-then-indirect

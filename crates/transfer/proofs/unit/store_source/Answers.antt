@@ -1,5 +1,4 @@
 use Rattle.transfer.proofs.{Join.stored-indirect, Join.stored-direct}
-use Rattle.std.proofs.Common.{rules}
 use Rattle.transfer.proofs.unit.store_source.Goals as goal
 
 pub returns-then-indirect : goal.returns-then-indirect

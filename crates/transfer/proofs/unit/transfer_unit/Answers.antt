@@ -1,5 +1,4 @@
 use Rattle.transfer.proofs.{Join.sent-by}
-use Rattle.std.proofs.Common.{rules}
 use Rattle.transfer.proofs.unit.transfer_unit.Goals as goal
 
 pub returns : goal.returns

@@ -1,5 +1,4 @@
 use Rattle.transfer.proofs.{Join.unit-by}
-use Rattle.std.proofs.Common.{rules}
 use Rattle.transfer.proofs.unit.unit_byte.Goals as goal
 
 pub returns : goal.returns

@@ -1,5 +1,4 @@
 use Rattle.walk.specs.Stand.{counted}
-use Rattle.std.proofs.Common.{rules}
 use Rattle.walk.proofs.stand.count_call.Goals as goal
 
 pub returns : goal.returns

@@ -1,5 +1,5 @@
 use Rattle.walk.specs.Stand.{onward}
-use Rattle.std.proofs.Common.{rules, le-ltb, lt-ltb}
+use Rattle.std.proofs.Common.{le-ltb, lt-ltb}
 use Rattle.walk.proofs.stand.go_on.Goals as goal
 
 pub returns-then-s-count : goal.returns-then-s-count

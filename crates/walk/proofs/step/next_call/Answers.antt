@@ -1,5 +1,4 @@
 use Rattle.walk.proofs.{Join.step-joined}
-use Rattle.std.proofs.Common.{rules}
 use Rattle.walk.proofs.step.next_call.Goals as goal
 
 pub returns : goal.returns

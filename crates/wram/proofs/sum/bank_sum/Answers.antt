@@ -1,5 +1,5 @@
-use Rattle.std.proofs.Common.{ℕ, ◌+◌, ◌-◌, ◌%◌, ◌^◌, length, ap, ◌∙◌, arith, rules}
-use Rattle.wram.proofs.SumLaws.{Added, added_none, added_next, added-all}
+use Rattle.std.proofs.Common.{ℕ, ◌+◌, ◌%◌, ◌^◌, ap, ◌∙◌}
+use Rattle.wram.proofs.SumLaws.{added_none, added_next}
 use Rattle.wram.proofs.sum.bank_sum.Goals as goal
 
 pub loop-i-init : goal.loop-i-init

@@ -1,5 +1,5 @@
-use Rattle.std.proofs.Common.{ℕ, ◌+◌, ◌-◌, ◌%◌, ◌^◌, length, ap, ◌∙◌, arith, rules}
-use Rattle.wram.proofs.SumLaws.{Added, added_none, added_next, added-all}
+use Rattle.std.proofs.Common.{◌-◌, length}
+use Rattle.wram.proofs.SumLaws.{Added}
 use Rattle.wram.proofs.sum.bank_sum.Given as goal
 
 abbrev pub invariant-loop-i : goal.invariant-loop-i

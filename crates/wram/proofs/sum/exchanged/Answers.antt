@@ -1,6 +1,5 @@
-use Rattle.std.proofs.Common.{◌-◌, refl, arith, rules}
-use Rattle.wram.specs.Banks.{banks}
-use Rattle.wram.proofs.SumLaws.{Exchanged, exchanged-none, exchanged-next, exchanged-all}
+use Rattle.std.proofs.Common.{refl, arith}
+use Rattle.wram.proofs.SumLaws.{exchanged-none, exchanged-next}
 use Rattle.wram.proofs.sum.exchanged.Goals as goal
 
 pub loop-i-init : goal.loop-i-init

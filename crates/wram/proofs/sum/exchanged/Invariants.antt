@@ -1,6 +1,6 @@
-use Rattle.std.proofs.Common.{◌-◌, refl, arith, rules}
+use Rattle.std.proofs.Common.{◌-◌}
 use Rattle.wram.specs.Banks.{banks}
-use Rattle.wram.proofs.SumLaws.{Exchanged, exchanged-none, exchanged-next, exchanged-all}
+use Rattle.wram.proofs.SumLaws.{Exchanged}
 use Rattle.wram.proofs.sum.exchanged.Given as goal
 
 abbrev pub invariant-loop-i : goal.invariant-loop-i

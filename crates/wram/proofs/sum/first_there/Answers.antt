@@ -1,5 +1,4 @@
-use Rattle.std.proofs.Common.{◌-◌, arith, rules}
-use Rattle.wram.proofs.SumLaws.{First, first-none, first_next, first-all}
+use Rattle.wram.proofs.SumLaws.{first-none, first_next}
 use Rattle.wram.proofs.sum.first_there.Goals as goal
 
 pub loop-i-init : goal.loop-i-init

@@ -1,5 +1,5 @@
-use Rattle.std.proofs.Common.{◌-◌, arith, rules}
-use Rattle.wram.proofs.SumLaws.{First, first-none, first_next, first-all}
+use Rattle.std.proofs.Common.{◌-◌}
+use Rattle.wram.proofs.SumLaws.{First}
 use Rattle.wram.proofs.sum.first_there.Given as goal
 
 abbrev pub invariant-loop-i : goal.invariant-loop-i

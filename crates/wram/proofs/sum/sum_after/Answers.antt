@@ -1,4 +1,3 @@
-use Rattle.std.proofs.Common.{rules}
 use Rattle.wram.proofs.{SumLaws.follow-after}
 use Rattle.wram.proofs.sum.sum_after.Goals as goal
 

@@ -1,4 +1,3 @@
-use Rattle.std.proofs.Common.{rules}
 use Rattle.wram.proofs.{SumLaws.follow-before}
 use Rattle.wram.proofs.sum.sum_before.Goals as goal
 

@@ -1,4 +1,3 @@
-use Rattle.std.proofs.Common.{rules}
 use Rattle.wram.proofs.{SumLaws.follow-put, SumLaws.follow-out}
 use Rattle.wram.proofs.sum.sum_with.Goals as goal
 

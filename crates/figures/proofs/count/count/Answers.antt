@@ -1,4 +1,3 @@
-use borrow.Author.Rules.{rules}
 use mathlib.Core.Path.{ap}
 use Rattle.figures.specs.Count.{count_of, told}
 use Rattle.figures.proofs.count.count.Goals as goal

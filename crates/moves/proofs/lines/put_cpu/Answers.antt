@@ -1,6 +1,5 @@
 use borrow.Author.Tests.{eq-eqb, ne_eqb}
 use Rattle.moves.proofs.{Join.cpu-refused, Join.cpu-done}
-use borrow.Author.Rules.{rules}
 use Rattle.moves.proofs.lines.put_cpu.Goals as goal
 
 pub returns-then-number-ne0 : goal.returns-then-number-ne0

@@ -1,5 +1,4 @@
 use Rattle.moves.proofs.{Join.back-goes, Join.back-ends}
-use borrow.Author.Rules.{rules}
 use Rattle.moves.proofs.lines.put_returned.Goals as goal
 
 pub returns-then-number-done : goal.returns-then-number-done

@@ -1,5 +1,4 @@
 use Rattle.moves.proofs.Join.{lines-cycle, lines-read, lines_write, lines-back, lines_other}
-use borrow.Author.Rules.{rules}
 use Rattle.moves.proofs.lines.put_step.Goals as goal
 
 pub returns-in-Cycles : goal.returns-in-Cycles

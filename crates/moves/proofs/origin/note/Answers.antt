@@ -5,8 +5,6 @@ use mathlib.Core.List.{List}
 use mathlib.Core.Path.{◌≡◌, sym}
 use lib.ListN.{length, set}
 use lib.Seq.{set_out}
-
-use borrow.Author.Rules.{rules}
 use Rattle.moves.proofs.origin.note.Goals as goal
 
 module _ (l : List ℕ) (slot origin : ℕ) {counts : Bool} where

@@ -1,5 +1,4 @@
 use Rattle.moves.proofs.{Join.list-joined}
-use borrow.Author.Rules.{rules}
 use Rattle.moves.proofs.steps.list_call.Goals as goal
 
 pub returns : goal.returns

@@ -1,12 +1,7 @@
 use Rattle.common.proofs.AllLaws.{◌also◌}
-use Rattle.script.proofs.Loop.{Going, going_start, going_on, going_end}
-use Rattle.script.proofs.Join.{slices_of}
-use Rattle.moves.specs.Steps.{Running, running, stepped, steps}
-use mathlib.Core.List.{◌∷◌}
+use Rattle.script.proofs.Loop.{going_start, going_on}
+use Rattle.moves.specs.Steps.{stepped, steps}
 use mathlib.Core.Path.{refl}
-use native.Mathlib.Omega.{arith}
-use Prim.Native.Nat.{◌-◌}
-use Rattle.std.proofs.Common.{rules}
 use Rattle.moves.proofs.steps.run_steps.Goals as goal
 
 pub loop-i-init : goal.loop-i-init

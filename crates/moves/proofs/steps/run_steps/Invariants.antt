@@ -1,10 +1,7 @@
-use Rattle.common.proofs.AllLaws.{◌also◌}
-use Rattle.script.proofs.Loop.{Going, going_start, going_on, going_end}
+use Rattle.script.proofs.Loop.{Going}
 use Rattle.script.proofs.Join.{slices_of}
-use Rattle.moves.specs.Steps.{Running, running, stepped, steps}
+use Rattle.moves.specs.Steps.{Running, running, steps}
 use mathlib.Core.List.{◌∷◌}
-use mathlib.Core.Path.{refl}
-use native.Mathlib.Omega.{arith}
 use Prim.Native.Nat.{◌-◌}
 use Rattle.moves.proofs.steps.run_steps.Given as goal
 

@@ -1,6 +1,5 @@
 use borrow.Author.Tests.{le-leb, lt-leb, eq-eqb, ne_eqb}
 use Rattle.moves.proofs.Join.{step-none, step-refused, step-full, step-goes}
-use borrow.Author.Rules.{rules}
 use Rattle.moves.proofs.steps.step.Goals as goal
 
 pub returns-then-script-at : goal.returns-then-script-at

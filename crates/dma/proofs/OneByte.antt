@@ -42,6 +42,12 @@ module _ (k : Core) (ch : ℕ) (eight : length k.io.channels ≡ 8) where
       let j = channel_twice k ch x (with_dma_channel_das x (down 65536 x.das)) i in
       pick (eqb (down 65536 x.das) 0) (record { core = with_mdmaen j (clear_bit (mdmaen_of k) ch); dma = z }) (record { core = j; dma = e }))
 
+  -- DAS goes down, not to 0
+  pub das-steps : (d : Dma) (u a : ℕ) → eqb (down 65536 c.das) 0 ≡ false
+      → after_byte (with_channel k ch (with_dma_channel_a1t c a)) d ch u
+      ≡ record { core = with_channel k ch (with_dma_channel_das (with_dma_channel_a1t c a) (down 65536 c.das)); dma = with_wait (with_progress d (progress.At ch ((u + 1) % 2 ^ 32))) 7 }
+  das-steps d u a q = let x = with_dma_channel_a1t c a in das-moves d u x ∙ ap (counted d u x) q
+
   -- A1T goes on too
   pub channel-moves : (d : Dma) (u : ℕ) → eqb (down 65536 c.das) 0 ≡ false
       → after_byte (step_a1t k ch c.dmap) d ch u
@@ -50,7 +56,7 @@ module _ (k : Core) (ch : ℕ) (eight : length k.io.channels ≡ 8) where
         dma = with_wait (with_progress d (progress.At ch ((u + 1) % 2 ^ 32))) 7;
       }
   unfolding step_a1t
-  channel-moves d u q = let x = with_dma_channel_a1t c (next_a1t c.dmap c.a1t) in das-moves d u x ∙ ap (counted d u x) q
+  channel-moves d u q = das-steps d u (next_a1t c.dmap c.a1t) q
 
 module _ (rom : List ℕ) (w : World) (d : Dma) (ch u : ℕ) where
   -- the unit moves a byte

@@ -42,6 +42,10 @@ timed-kept : (io : Io) (hit : Bool) → Kept io (timed io hit)
 unfolding timed
 timed-kept io hit = pick_elim (Kept io) hit (pick_elim (Kept io) (irq_disabled io.enables.nmitimen) refl refl) refl
 
+pub before-kept : (io : Io) (pad1 pad2 : ℕ) (event : Event) (bitcycles : ℕ) (hit : Bool) → (timed (settled io pad1 pad2 event bitcycles) hit).wmadd ≡ io.wmadd
+before-kept io pad1 pad2 event bitcycles hit =
+    ap (λ x. x.0) (timed-kept (settled io pad1 pad2 event bitcycles) hit ∙ settled-kept io pad1 pad2 event bitcycles)
+
 module _ (m : Machine) (event : Event) where
   settled_of-kept : Kept m.io (settled_of m event)
   settled_of-kept = settled-kept m.io m.board.pad1 m.board.pad2 event m.board.bitcycles
@@ -50,4 +54,4 @@ module _ (m : Machine) (event : Event) where
   settled-seen = ap (λ x. x.1) settled_of-kept
 
   pub before-wmadd : (hit : Bool) → (timed (settled_of m event) hit).wmadd ≡ m.io.wmadd
-  before-wmadd hit = ap (λ x. x.0) (timed-kept (settled_of m event) hit ∙ settled_of-kept)
+  before-wmadd = before-kept m.io m.board.pad1 m.board.pad2 event m.board.bitcycles

@@ -73,6 +73,9 @@ lent-stands len rom d pos whole h s =
       le-ltb (capacity len) d.bench.kept s.kept_in,
     )
 
+pub lent-sound : (len rom : ℕ) (d : Desk) → 0 < len → len % entry_size ≡ 0 → rom ≤ 4194304 → SoundDesk len d → lent_of d rom ≡ 0
+lent-sound len rom d pos whole h s = lent-stands len rom d pos whole h s.stands
+
 -- the number and the desk of each answer
 abbrev cycle-reply : CycleOut → Reply
 cycle-reply r = record { number = r.number; desk = r.desk }

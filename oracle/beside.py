@@ -1,7 +1,7 @@
 """A program of this repository beside the oracle, for `compare`, `moves`, `sums`, `figures` and `loads`: how both run, and how a differing
 file is made small.
 
-Programs are crates/NAME/out/NAME (`rt run NAME` makes one), the oracle is target/release/oracle (`cargo build --release` in this folder).
+Programs are crates/NAME/out/NAME (`rt run` in crates/NAME makes one), the oracle is target/release/oracle (`cargo build --release` in this folder).
 """
 import os
 import pathlib

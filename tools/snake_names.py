@@ -14,7 +14,6 @@ import os
 import re
 import sys
 
-STOP = " \t\n(){}[];.,\"`"
 WORD = r"[^\s(){}\[\];.,\"`]+"
 MARKS = {"abbrev", "unfoldable", "pub", "record", "data"}
 NEVER = {"use", "module", "where", "let", "in", "elim", "as", "unfolding", "infixr", "infixl", "infix", "ruleset", "open", "mod", "_"}

@@ -1,5 +1,5 @@
--- The DMA unit (src/dma.rs, struct Dma) beside the world of the bus. antt has no record update, so each field has its setter.
-use Rattle.std.specs.Prelude.{ℕ, ◌%◌, Bool, List, get_or, set}
+-- The DMA unit (src/dma.rs, struct Dma) beside the world of the bus. Each field has its setter.
+use Rattle.std.specs.Prelude.{ℕ, ◌%◌, Bool, List, get_or, set, Option}
 use Rattle.bus.specs.World.{World, world}
 use Rattle.state.specs.Hdma.{no_hdma}
 use Rattle.state.specs.declared.{Dma.Dma, DmaProgress.DmaProgress, DmaState.DmaState, HdmaChannelState.HdmaChannelState}
@@ -14,7 +14,7 @@ with_wait d v = record { state = d.state; wait = v; running = d.running; progres
 abbrev pub with_running : Dma → Bool → Dma
 with_running d v = record { state = d.state; wait = d.wait; running = v; progress = d.progress; pending = d.pending; init = d.init; queue = d.queue; channels = d.channels }
 
-abbrev pub with_progress : Dma → DmaProgress → Dma
+abbrev pub with_progress : Dma → Option DmaProgress → Dma
 with_progress d v = record { state = d.state; wait = d.wait; running = d.running; progress = v; pending = d.pending; init = d.init; queue = d.queue; channels = d.channels }
 
 abbrev pub with_pending : Dma → Bool → Dma

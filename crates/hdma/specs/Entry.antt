@@ -1,5 +1,6 @@
 -- Table entries (src/dma.rs, hdma_init_channel and the first half of hdma_line_channel; Fullsnes, "HDMA table"). Waits are costs less one.
-use Rattle.std.specs.Prelude.{ℕ, Bool, true, false, not, List, eqb}
+use Rattle.std.specs.Prelude.{ℕ, Bool, true, false, not, List, eqb, is_none}
+use Rattle.std.specs.Option.{unwrap_or}
 use Rattle.common.specs.Pick.{pick}
 use Rattle.bus.specs.View.{channel_of, with_channel, with_core}
 use Rattle.bus.specs.World.{World, Reading}
@@ -21,7 +22,7 @@ pub record Reloaded : Type 0 where
 
 -- these of the code's values
 abbrev pub reloading : Reload → List ℕ → List ℕ → Reloaded
-reloading r l h = record { after = dma_world r.after l h; wait = r.wait; stop = r.stop }
+reloading r l h = record { after = dma_world r.after l h; wait = unwrap_or r.wait 7; stop = is_none r.wait }
 
 -- the table has ended
 abbrev pub ended : HdmaChannelState → HdmaChannelState

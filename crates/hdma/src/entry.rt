@@ -5,19 +5,20 @@ ghost use Rattle.hdma.specs.Entry.{reloading, reloaded, counted, init_channel};
 
 use crate::engine::{DmaCore, hdma_of, set_hdma};
 use bus::view::{channel_of, with_channel};
+use registers::channel::DmaChannel;
 use state::{Dma, HdmaChannelState};
 use transfer::bits::{dec8, flag};
 use transfer::table::{load_das, read_table};
 
-// `wait` is the cost so far less one; `stop` says that the table ended.
+// `wait` is the cost so far less one, and `None` where the table ended.
 #[derive(Clone, Copy)]
 pub struct Reload {
     pub after: DmaCore,
-    pub wait: u8,
-    pub stop: bool,
+    pub wait: Option<u8>,
 }
 
 // A new entry, where the low seven bits of the counter are 0.
+#[tactic(auto, unfolding(crate::specs::Entry::reloaded))]
 pub fn reload_entry(
     m: DmaCore,
     low: &[u8],
@@ -28,123 +29,88 @@ pub fn reload_entry(
 ) -> Reload
     ensures { reloading result low.now high.now ≡ reloaded rom.now (dma_world m low.now high.now) ch indirect }
 {
-    let core = m.core;
-    let dma = m.dma;
-    let h = hdma_of(dma, ch);
+    let h = hdma_of(m.dma, ch);
     if flag(h.counter, 0x7F) {
         return Reload {
             after: m,
-            wait: 7,
-            stop: false,
+            wait: Some(7),
         };
     }
-    let r = read_table(core, low, high, rom, ch);
-    let k = r.core;
-    let counter = r.byte;
-    if counter == 0 {
-        let h2 = HdmaChannelState {
-            counter: h.counter,
-            transfer: h.transfer,
+    let r = read_table(m.core, low, high, rom, ch);
+    if r.byte == 0 {
+        let ended = HdmaChannelState {
             finished: true,
+            ..h
         };
-        let d2 = set_hdma(dma, ch, h2, 7);
-        let out = DmaCore { core: k, dma: d2 };
+        let dma = set_hdma(m.dma, ch, ended, 7);
         return Reload {
-            after: out,
-            wait: 7,
-            stop: true,
+            after: DmaCore { core: r.core, dma },
+            wait: None,
         };
     }
-    let h2 = HdmaChannelState {
-        counter: counter,
+    let started = HdmaChannelState {
+        counter: r.byte,
         transfer: true,
-        finished: h.finished,
+        ..h
     };
-    let d2 = set_hdma(dma, ch, h2, dma.wait);
+    let dma = set_hdma(m.dma, ch, started, m.dma.wait);
     if indirect {
-        let k2 = load_das(k, low, high, rom, ch);
-        let out = DmaCore { core: k2, dma: d2 };
+        let core = load_das(r.core, low, high, rom, ch);
         return Reload {
-            after: out,
-            wait: 23,
-            stop: false,
+            after: DmaCore { core, dma },
+            wait: Some(23),
         };
     }
-    let out = DmaCore { core: k, dma: d2 };
     Reload {
-        after: out,
-        wait: 7,
-        stop: false,
+        after: DmaCore { core: r.core, dma },
+        wait: Some(7),
     }
 }
 
 // The counter goes down. Bit 7 of what it was asks for a transfer on each line.
+#[tactic(auto, unfolding(crate::specs::Entry::counted))]
 pub fn count_line(d: Dma, ch: u8, wait: u32) -> Dma
     ensures { result ≡ counted d ch wait }
 {
     let h = hdma_of(d, ch);
     let counter = dec8(h.counter);
-    if flag(h.counter, 0x80) {
-        return set_hdma(
-            d,
-            ch,
-            HdmaChannelState {
-                counter: counter,
-                transfer: true,
-                finished: h.finished,
-            },
-            wait,
-        );
-    }
-    let more = flag(counter, 0x7F);
-    set_hdma(
-        d,
-        ch,
-        HdmaChannelState {
-            counter: counter,
-            transfer: !more,
-            finished: h.finished,
-        },
-        wait,
-    )
+    let transfer = flag(h.counter, 0x80) || !flag(counter, 0x7F);
+    let next = HdmaChannelState {
+        counter,
+        transfer,
+        ..h
+    };
+    set_hdma(d, ch, next, wait)
 }
 
 // Once a frame the table pointer goes back to the table's start, and the first entry is read.
+#[tactic(auto, unfolding(crate::specs::Entry::init_channel))]
 pub fn init_channel(m: DmaCore, low: &[u8], high: &[u8], rom: &[u8], ch: u8) -> DmaCore
     ensures { dma_world result low.now high.now ≡ init_channel rom.now (dma_world m low.now high.now) ch }
 {
-    let d = m.dma;
-    let core = m.core;
-    let mut c = channel_of(core, ch);
-    c.a2a = c.a1t;
+    let c = channel_of(m.core, ch);
     let indirect = flag(c.dmap, 0x40);
-    let k = with_channel(core, ch, c);
-    let r = read_table(k, low, high, rom, ch);
-    let k2 = r.core;
-    let counter = r.byte;
-    if counter == 0 {
-        let d2 = set_hdma(
-            d,
-            ch,
-            HdmaChannelState {
-                counter: 0,
-                transfer: false,
-                finished: true,
-            },
-            7,
-        );
-        return DmaCore { core: k2, dma: d2 };
+    let rewound = with_channel(m.core, ch, DmaChannel { a2a: c.a1t, ..c });
+    let r = read_table(rewound, low, high, rom, ch);
+    if r.byte == 0 {
+        let ended = HdmaChannelState {
+            counter: 0,
+            transfer: false,
+            finished: true,
+        };
+        let dma = set_hdma(m.dma, ch, ended, 7);
+        return DmaCore { core: r.core, dma };
     }
-    let h = HdmaChannelState {
-        counter: counter,
+    let started = HdmaChannelState {
+        counter: r.byte,
         transfer: true,
         finished: false,
     };
     if indirect {
-        let k3 = load_das(k2, low, high, rom, ch);
-        let d2 = set_hdma(d, ch, h, 23);
-        return DmaCore { core: k3, dma: d2 };
+        let core = load_das(r.core, low, high, rom, ch);
+        let dma = set_hdma(m.dma, ch, started, 23);
+        return DmaCore { core, dma };
     }
-    let d2 = set_hdma(d, ch, h, 7);
-    DmaCore { core: k2, dma: d2 }
+    let dma = set_hdma(m.dma, ch, started, 7);
+    DmaCore { core: r.core, dma }
 }

@@ -1,5 +1,5 @@
 // A line of one channel: a new entry if one is due, a unit if one is due, then the counter.
-ghost use Rattle.std.specs.Prelude.{◌≡◌, ◌+◌, ◌*◌};
+ghost use Rattle.std.specs.Prelude.{◌≡◌};
 ghost use Rattle.hdma.specs.Engine.{dma_world};
 ghost use Rattle.hdma.specs.Line.{line_channel};
 
@@ -9,40 +9,25 @@ use bus::view::channel_of;
 use transfer::bits::flag;
 use transfer::unit::transfer_unit;
 
-// What a line waits with so many bytes moved: eight cycles each upon what its entry cost.
-fn line_wait(wait: u8, bytes: u8) -> u32
-    ensures { result ≡ wait + bytes * 8 }
-{
-    wait as u32 + (bytes as u32) * 8
-}
-
+// Each byte that moves waits eight cycles upon what the entry cost.
+#[tactic(auto, unfolding(crate::specs::Line::line_channel))]
 pub fn line_channel(m: DmaCore, low: &mut [u8], high: &mut [u8], rom: &[u8], ch: u8) -> DmaCore
     ensures { dma_world result low.new high.new ≡ line_channel rom.now (dma_world m low.old high.old) ch }
 {
-    let dma = m.dma;
-    let h = hdma_of(dma, ch);
-    if h.finished {
+    if hdma_of(m.dma, ch).finished {
         return m;
     }
-    let core = m.core;
-    let c = channel_of(core, ch);
-    let indirect = flag(c.dmap, 0x40);
+    let indirect = flag(channel_of(m.core, ch).dmap, 0x40);
     let l = reload_entry(m, low, high, rom, ch, indirect);
-    let lm = l.after;
-    if l.stop {
-        return lm;
+    let Some(wait) = l.wait else {
+        return l.after;
+    };
+    let DmaCore { core, dma } = l.after;
+    if hdma_of(dma, ch).transfer {
+        let s = transfer_unit(core, low, high, rom, ch, indirect);
+        let dma = count_line(dma, ch, wait as u32 + s.bytes as u32 * 8);
+        return DmaCore { core: s.core, dma };
     }
-    let ld = lm.dma;
-    let lc = lm.core;
-    let lh = hdma_of(ld, ch);
-    if lh.transfer {
-        let s = transfer_unit(lc, low, high, rom, ch, indirect);
-        let sc = s.core;
-        let t = line_wait(l.wait, s.bytes);
-        let d2 = count_line(ld, ch, t);
-        return DmaCore { core: sc, dma: d2 };
-    }
-    let t = line_wait(l.wait, 0);
-    let d2 = count_line(ld, ch, t);
-    DmaCore { core: lc, dma: d2 }
+    let dma = count_line(dma, ch, wait as u32);
+    DmaCore { core, dma }
 }

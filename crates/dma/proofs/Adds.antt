@@ -1,12 +1,12 @@
 -- What one master cycle of the DMA unit adds: at most 11 accesses and 4 old bytes.
-use Rattle.std.proofs.Common.{ℕ, eqb, ltb, List, arith}
+use Rattle.std.proofs.Common.{ℕ, eqb, ltb, List, arith, Option, None, Some}
 use Rattle.common.proofs.TableLaws.{pick_elim}
 use Rattle.bus.proofs.Adds.{Adds, adds_none, adds_trans, adds-more, channel-adds, mdmaen-adds}
 use Rattle.bus.specs.View.{channel_of, mdmaen_of}
 use Rattle.hdma.proofs.Adds.{init-adds, line-adds}
 use Rattle.hdma.specs.Engine.{DmaWorld, at}
 use Rattle.hdma.specs.declared.engine.DmaCore.{DmaCore}
-use Rattle.state.specs.declared.{DmaProgress.DmaProgress, DmaProgress.TheVariants.Nothing, DmaProgress.TheVariants.At, DmaState.DmaState}
+use Rattle.state.specs.declared.{DmaProgress.DmaProgress, DmaState.DmaState}
 use Rattle.state.specs.declared.DmaState.TheVariants.{Idle, Startup, Dma as General, Hdma}
 use Rattle.transfer.proofs.Adds.{transfer-adds}
 use Rattle.transfer.specs.{Bits.lowest, Bits.down, Byte.transfer_byte}
@@ -15,12 +15,13 @@ use Rattle.dma.specs.General.{after_byte, on_banks, step_from, dma_step}
 use Rattle.dma.specs.Pass.{unqueued, hdma_step}
 
 module _ (rom : List ℕ) where
-  step-adds : (p : DmaProgress) (m : DmaWorld) → Adds 2 1 m.world (step_from rom p m).world
+  step-adds : (p : Option DmaProgress) (m : DmaWorld) → Adds 2 1 m.world (step_from rom p m).world
   unfolding step_from after_byte
-  step-adds Nothing m = adds-more 2 1 (adds_none m.world) (omega arith) (omega arith)
-  step-adds (At ch u) m =
-      let w = transfer_byte rom m.world ch u in
-      let x = adds_trans (transfer-adds rom m.world ch u) (channel-adds w ch _) in
+  step-adds None m = adds-more 2 1 (adds_none m.world) (omega arith) (omega arith)
+  step-adds (Some p) m =
+      let ch = p.channel in
+      let w = transfer_byte rom m.world ch p.unit in
+      let x = adds_trans (transfer-adds rom m.world ch p.unit) (channel-adds w ch _) in
       pick_elim (λ (r : DmaCore). Adds 2 1 m.world (on_banks w r).world) (eqb (down 65536 (channel_of w.core ch).das) 0)
       (adds_trans x (mdmaen-adds _ _)) x
 

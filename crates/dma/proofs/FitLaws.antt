@@ -1,5 +1,5 @@
 -- One master cycle of the DMA unit keeps it, the registers, the bytes overwritten and both banks in their widths.
-use Rattle.std.proofs.Common.{◌≡◌, ℕ, ◌-◌, ◌*◌, ◌%◌, ◌^◌, true, false, eqb, ltb, List, arith}
+use Rattle.std.proofs.Common.{◌≡◌, ℕ, ◌-◌, ◌*◌, ◌%◌, ◌^◌, true, false, eqb, ltb, List, arith, Option, None, Some}
 use borrow.Author.Tests.{eqb-false}
 use lib.Bits.{and_le_l}
 use Rattle.common.proofs.TableLaws.{pick_elim, pick_case}
@@ -11,7 +11,7 @@ use Rattle.hdma.specs.declared.engine.DmaCore.{DmaCore}
 use Rattle.common.specs.Width.{Byte, Bytes}
 use Rattle.registers.specs.Groups.{with_dma_channel_das}
 use Rattle.state.specs.Fit.{FitProgress, FitDma}
-use Rattle.state.specs.declared.{Dma.Dma, DmaProgress.DmaProgress, DmaProgress.TheVariants.Nothing, DmaProgress.TheVariants.At}
+use Rattle.state.specs.declared.{Dma.Dma, DmaProgress.DmaProgress}
 use Rattle.state.specs.declared.DmaState.{DmaState}
 use Rattle.state.specs.declared.DmaState.TheVariants.{Idle, Startup, Dma as General, Hdma}
 use Rattle.transfer.proofs.{BitLaws.lowest_lt, FitLaws.transfer-fits}
@@ -40,13 +40,14 @@ module _ {d : Dma} (f : FitDma d) where
   drained-fits = pick_elim FitDma d.running (search) (search)
 
 module _ (rom : List ℕ) (g : Bytes rom) where
-  step_fits : (p : DmaProgress) {m : DmaWorld} → FitDmaWorld m → FitProgress p → FitDmaWorld (step_from rom p m)
+  step_fits : (p : Option DmaProgress) {m : DmaWorld} → FitDmaWorld m → FitProgress p → FitDmaWorld (step_from rom p m)
   unfolding step_from after_byte
-  step_fits Nothing {m} f q = record { world = f.world; dma = chosen-fits f.dma (mdmaen_of m.world.core) (mdmaen-fits f.world) }
-  step_fits (At ch u) {m} f q =
-      let w = transfer_byte rom m.world ch u in
+  step_fits None {m} f q = record { world = f.world; dma = chosen-fits f.dma (mdmaen_of m.world.core) (mdmaen-fits f.world) }
+  step_fits (Some p) {m} f q =
+      let ch = p.channel in
+      let w = transfer_byte rom m.world ch p.unit in
       let c = channel_of w.core ch in
-      let x = transfer-fits rom g ch u f.world in
+      let x = transfer-fits rom g ch p.unit f.world in
       let cf = channel-fits x ch in
       let y : FitWorld (with_core w (with_channel w.core ch (with_dma_channel_das c (down 65536 c.das)))) = with_channel-fits x ch (omega (arith, cf)) in
       let e = f.dma in

@@ -1,5 +1,5 @@
 -- One master cycle of the DMA unit keeps its ranges: wait at most 55, channel under 8.
-use Rattle.std.proofs.Common.{◌≡◌, ℕ, ◌<◌, Bool, true, false, eqb, ltb, List, arith}
+use Rattle.std.proofs.Common.{◌≡◌, ℕ, ◌<◌, Bool, true, false, eqb, ltb, List, arith, Option, None, Some}
 use borrow.Author.Tests.{eqb-false}
 use Rattle.common.specs.Pick.{pick}
 use Rattle.common.proofs.TableLaws.{pick_elim, pick_case}
@@ -8,7 +8,7 @@ use Rattle.hdma.proofs.Ranges.{init-ok, line_ok}
 use Rattle.hdma.specs.Engine.{DmaWorld, at, with_state, with_init}
 use Rattle.hdma.specs.declared.engine.DmaCore.{DmaCore}
 use Rattle.state.proofs.Ranges.{ProgressOk, DmaOk}
-use Rattle.state.specs.declared.{Dma.Dma, DmaProgress.DmaProgress, DmaProgress.TheVariants.Nothing, DmaProgress.TheVariants.At}
+use Rattle.state.specs.declared.{Dma.Dma, DmaProgress.DmaProgress}
 use Rattle.state.specs.declared.DmaState.{DmaState}
 use Rattle.state.specs.declared.DmaState.TheVariants.{Idle, Startup, Dma as General, Hdma}
 use Rattle.transfer.proofs.BitLaws.{lowest_lt}
@@ -38,12 +38,12 @@ module _ {d : Dma} (f : DmaOk d) where
       pick_elim DmaOk d.running (rest true) (rest false)
 
 module _ (rom : List ℕ) where
-  step_ok : (p : DmaProgress) (m : DmaWorld) → DmaOk m.dma → ProgressOk p → mdmaen_of m.world.core < 256 → DmaOk (step_from rom p m).dma
+  step_ok : (p : Option DmaProgress) (m : DmaWorld) → DmaOk m.dma → ProgressOk p → mdmaen_of m.world.core < 256 → DmaOk (step_from rom p m).dma
   unfolding step_from after_byte
-  step_ok Nothing m f q l = chosen-ok f (mdmaen_of m.world.core) l
-  step_ok (At ch u) m f q l =
-      let w = transfer_byte rom m.world ch u in
-      pick_elim (λ (r : DmaCore). DmaOk r.dma) (eqb (down 65536 (channel_of w.core ch).das) 0)
+  step_ok None m f q l = chosen-ok f (mdmaen_of m.world.core) l
+  step_ok (Some p) m f q l =
+      let w = transfer_byte rom m.world p.channel p.unit in
+      pick_elim (λ (r : DmaCore). DmaOk r.dma) (eqb (down 65536 (channel_of w.core p.channel).das) 0)
       (record { wait = omega arith; progress = tt }) (record { wait = omega arith; progress = q })
 
   pub dma-ok : (m : DmaWorld) → DmaOk m.dma → mdmaen_of m.world.core < 256 → DmaOk (dma_step rom m).dma

@@ -6,7 +6,7 @@ ghost use Rattle.hdma.specs.Engine.{dma_world};
 use crate::general::dma_step;
 use crate::pass::hdma_step;
 use bus::view::{hdmaen_of, mdmaen_of};
-use hdma::engine::{DmaCore, with_state};
+use hdma::engine::DmaCore;
 use state::{Dma, DmaState};
 
 // Up to the next slot of eight cycles, and eight more, less the cycle that starts it.
@@ -17,27 +17,27 @@ fn aligned_wait(clock: u64) -> u32
 }
 
 // MDMAEN asks for a transfer, and none is running: it starts, whatever the unit was doing.
+#[tactic(auto, unfolding(crate::specs::Cycle::start_pending))]
 fn start_pending_dma(d: Dma, mask: u8, clock: u64) -> Dma
     ensures { result ≡ start_pending d mask clock }
 {
-    if d.running {
+    if d.running || mask == 0 {
         return d;
     }
-    if mask == 0 {
-        return d;
+    Dma {
+        state: DmaState::Startup,
+        running: true,
+        wait: aligned_wait(clock),
+        ..d
     }
-    let wait = aligned_wait(clock);
-    let mut out = with_state(d, DmaState::Startup);
-    out.running = true;
-    out.wait = wait;
-    out
 }
 
 // A pending H-blank pass takes over only between actions.
+#[tactic(auto, unfolding(crate::specs::Cycle::due_of))]
 fn due(d: Dma) -> bool
     ensures { result ≡ due_of d }
 {
-    d.pending & (d.wait == 0)
+    d.pending && d.wait == 0
 }
 
 #[derive(Clone, Copy)]
@@ -46,46 +46,30 @@ pub struct Cycled {
     pub held: bool,
 }
 
-// The action of the unit's state.
+// The action of the unit's state. Only an idle unit leaves the bus alone.
+#[tactic(auto, unfolding(crate::specs::Cycle::acted, crate::specs::Cycle::act_by))]
 fn act(m: DmaCore, low: &mut [u8], high: &mut [u8], rom: &[u8]) -> Cycled
     ensures { cycling result low.new high.new ≡ acted rom.now (dma_world m low.old high.old) }
 {
-    let dma = m.dma;
-    let state = dma.state;
-    match state {
-        DmaState::Idle => Cycled {
-            after: m,
-            held: false,
+    let after = match m.dma.state {
+        DmaState::Idle => m,
+        DmaState::Startup => DmaCore {
+            dma: Dma {
+                state: DmaState::Dma,
+                ..m.dma
+            },
+            ..m
         },
-        DmaState::Startup => {
-            let core = m.core;
-            let d2 = with_state(dma, DmaState::Dma);
-            let m2 = DmaCore {
-                core: core,
-                dma: d2,
-            };
-            Cycled {
-                after: m2,
-                held: true,
-            }
-        }
-        DmaState::Dma => {
-            let m2 = dma_step(m, low, high, rom);
-            Cycled {
-                after: m2,
-                held: true,
-            }
-        }
-        DmaState::Hdma => {
-            let m2 = hdma_step(m, low, high, rom);
-            Cycled {
-                after: m2,
-                held: true,
-            }
-        }
+        DmaState::Dma => dma_step(m, low, high, rom),
+        DmaState::Hdma => hdma_step(m, low, high, rom),
+    };
+    Cycled {
+        after,
+        held: m.dma.state != DmaState::Idle,
     }
 }
 
+#[tactic(auto, unfolding(crate::specs::Cycle::updated))]
 pub fn update_dma_cycles(
     m: DmaCore,
     low: &mut [u8],
@@ -95,41 +79,29 @@ pub fn update_dma_cycles(
 ) -> Cycled
     ensures { cycling result low.new high.new ≡ updated rom.now (dma_world m low.old high.old) clock }
 {
-    let core = m.core;
-    let d0 = m.dma;
-    let mask = mdmaen_of(core);
-    let d1 = start_pending_dma(d0, mask, clock);
-    if due(d1) {
-        let queue = hdmaen_of(core);
-        let mut d2 = with_state(d1, DmaState::Hdma);
-        d2.pending = false;
-        d2.queue = queue;
-        d2.wait = 17;
-        let m2 = DmaCore {
-            core: core,
-            dma: d2,
+    let d = start_pending_dma(m.dma, mdmaen_of(m.core), clock);
+    if due(d) {
+        let dma = Dma {
+            state: DmaState::Hdma,
+            pending: false,
+            queue: hdmaen_of(m.core),
+            wait: 17,
+            ..d
         };
         return Cycled {
-            after: m2,
+            after: DmaCore { dma, ..m },
             held: true,
         };
     }
-    let wait = d1.wait;
-    if 0 < wait {
-        let mut d2 = d1;
-        d2.wait = wait - 1;
-        let m2 = DmaCore {
-            core: core,
-            dma: d2,
+    if 0 < d.wait {
+        let dma = Dma {
+            wait: d.wait - 1,
+            ..d
         };
         return Cycled {
-            after: m2,
+            after: DmaCore { dma, ..m },
             held: true,
         };
     }
-    let m1 = DmaCore {
-        core: core,
-        dma: d1,
-    };
-    act(m1, low, high, rom)
+    act(DmaCore { dma: d, ..m }, low, high, rom)
 }

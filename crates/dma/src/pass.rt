@@ -3,49 +3,43 @@ ghost use Rattle.std.specs.Prelude.{◌≡◌};
 ghost use Rattle.dma.specs.Pass.{drained_of, hdma_step};
 ghost use Rattle.hdma.specs.Engine.{dma_world};
 
-use hdma::engine::{DmaCore, with_state};
+use hdma::engine::DmaCore;
 use hdma::entry::init_channel;
 use hdma::line::line_channel;
 use state::{Dma, DmaState};
 use transfer::bits::{clear_bit, lowest_bit};
 
 // A general transfer that was stopped goes on where it paused.
+#[tactic(auto, unfolding(crate::specs::Pass::drained_of))]
 fn drained(d: Dma) -> Dma
     ensures { result ≡ drained_of d }
 {
-    if d.running {
-        let mut out = with_state(d, DmaState::Dma);
-        out.init = false;
-        return out;
+    let state = if d.running {
+        DmaState::Dma
+    } else {
+        DmaState::Idle
+    };
+    Dma {
+        state,
+        init: false,
+        ..d
     }
-    let mut out = with_state(d, DmaState::Idle);
-    out.init = false;
-    out
 }
 
+#[tactic(auto, unfolding(crate::specs::Pass::hdma_step))]
 pub fn hdma_step(m: DmaCore, low: &mut [u8], high: &mut [u8], rom: &[u8]) -> DmaCore
     ensures { dma_world result low.new high.new ≡ hdma_step rom.now (dma_world m low.old high.old) }
 {
-    let dma = m.dma;
-    let core = m.core;
-    let queue = dma.queue;
-    if queue == 0 {
-        let d2 = drained(dma);
-        return DmaCore {
-            core: core,
-            dma: d2,
-        };
+    if m.dma.queue == 0 {
+        let dma = drained(m.dma);
+        return DmaCore { dma, ..m };
     }
-    let ch = lowest_bit(queue);
-    let rest = clear_bit(queue, ch);
-    let mut d2 = dma;
-    d2.queue = rest;
-    let m2 = DmaCore {
-        core: core,
-        dma: d2,
-    };
+    let ch = lowest_bit(m.dma.queue);
+    let queue = clear_bit(m.dma.queue, ch);
+    let dma = Dma { queue, ..m.dma };
+    let unqueued = DmaCore { dma, ..m };
     if dma.init {
-        return init_channel(m2, low, high, rom, ch);
+        return init_channel(unqueued, low, high, rom, ch);
     }
-    line_channel(m2, low, high, rom, ch)
+    line_channel(unqueued, low, high, rom, ch)
 }

@@ -6,6 +6,7 @@ use mathlib.Core.Path.{◌≡◌, refl}
 use native.Mathlib.Omega.{arith}
 use lib.Dec.{eqb, ltb}
 use lib.ListN.{length}
+use Rattle.std.specs.Prelude.{Option, None, Some}
 use Rattle.common.proofs.TableLaws.{pick_elim}
 use Rattle.bus.proofs.Adds.{logs}
 use Rattle.bus.specs.{Access.opened, View.channel_of, View.mdmaen_of}
@@ -17,7 +18,7 @@ use Rattle.hdma.specs.declared.engine.DmaCore.{DmaCore}
 use Rattle.machine.proofs.Before.{before-wmadd}
 use Rattle.machine.specs.Cycle.{begun, cycled}
 use Rattle.machine.specs.declared.event.Event.{Event}
-use Rattle.state.specs.declared.{DmaProgress.DmaProgress, DmaProgress.TheVariants.Nothing, DmaProgress.TheVariants.At, DmaState.DmaState}
+use Rattle.state.specs.declared.{DmaProgress.DmaProgress, DmaState.DmaState}
 use Rattle.state.specs.declared.Machine.{Machine}
 use Rattle.state.specs.declared.DmaState.TheVariants.{Idle, Startup, Dma as General, Hdma}
 use Rattle.transfer.specs.{Bits.lowest, Bits.down, Byte.transfer_byte}
@@ -27,13 +28,13 @@ use Rattle.followed.proofs.Accesses.{Follows, follows-none, follows_trans, follo
 use Rattle.followed.proofs.{Moves.transfer-follows, Turns.init-follows, Turns.line-follows}
 
 module _ (rom : List ℕ) where
-  step_follows : (p : DmaProgress) (m : DmaWorld) → Follows 2 m.world (step_from rom p m).world
+  step_follows : (p : Option DmaProgress) (m : DmaWorld) → Follows 2 m.world (step_from rom p m).world
   unfolding step_from after_byte
-  step_follows Nothing m = follows-more 2 (follows-none m.world) (omega arith)
-  step_follows (At ch u) m =
-      let w = transfer_byte rom m.world ch u in
-      let x = follows_trans (transfer-follows rom m.world ch u) (channel-follows w ch _) in
-      pick_elim (λ (r : DmaCore). Follows 2 m.world (on_banks w r).world) (eqb (down 65536 (channel_of w.core ch).das) 0)
+  step_follows None m = follows-more 2 (follows-none m.world) (omega arith)
+  step_follows (Some p) m =
+      let w = transfer_byte rom m.world p.channel p.unit in
+      let x = follows_trans (transfer-follows rom m.world p.channel p.unit) (channel-follows w p.channel _) in
+      pick_elim (λ (r : DmaCore). Follows 2 m.world (on_banks w r).world) (eqb (down 65536 (channel_of w.core p.channel).das) 0)
       (follows_trans x (mdmaen-follows _ _)) x
 
   pub dma-follows : (m : DmaWorld) → Follows 2 m.world (dma_step rom m).world

@@ -5,6 +5,7 @@ use mathlib.Core.List.{List}
 use mathlib.Core.Logic.{inl, inr}
 use mathlib.Core.Path.{◌≡◌, refl, subst}
 use lib.Dec.{eqb, ltb}
+use Rattle.std.specs.Prelude.{Option, None, Some}
 use Rattle.common.proofs.TableLaws.{pick_elim}
 use Rattle.bus.specs.{Access.no_log, Access.opened, World.World}
 use Rattle.bus.specs.View.{channel_of, with_channel, mdmaen_of, with_mdmaen}
@@ -15,7 +16,7 @@ use Rattle.hdma.specs.Engine.{DmaWorld, at}
 use Rattle.hdma.specs.declared.engine.DmaCore.{DmaCore}
 use Rattle.machine.specs.Cycle.{armed, begun, cycled}
 use Rattle.machine.specs.declared.event.Event.{Event}
-use Rattle.state.specs.declared.{Dma.Dma, DmaProgress.DmaProgress, DmaProgress.TheVariants.Nothing, DmaProgress.TheVariants.At}
+use Rattle.state.specs.declared.{Dma.Dma, DmaProgress.DmaProgress}
 use Rattle.state.specs.declared.{DmaState.DmaState, Machine.Machine}
 use Rattle.state.specs.declared.DmaState.TheVariants.{Idle, Startup, Dma as Transfer, Hdma as Pass}
 use Rattle.touch.specs.Who.{who_from, who_by, who_of}
@@ -35,12 +36,12 @@ module _ (rom : List ℕ) (w : World) (d : Dma) where
   quiet u (Hdma ch) = inl (same w)
 
   -- after a byte only DAS and MDMAEN change
-  step_credited : (p : DmaProgress) → CreditedAt rom w d (unit_of p) (who_from p) (step_from rom p (at w d)).world
+  step_credited : (p : Option DmaProgress) → CreditedAt rom w d (unit_of p) (who_from p) (step_from rom p (at w d)).world
   unfolding step_from after_byte with_channel with_mdmaen
-  step_credited Nothing = same w
-  step_credited (At ch u) =
-      let v = transfer_byte rom w ch u in
-      inr (pick_elim (λ (r : DmaCore). Done (on_banks v r).world v) (eqb (down 65536 (channel_of v.core ch).das) 0)
+  step_credited None = same w
+  step_credited (Some p) =
+      let v = transfer_byte rom w p.channel p.unit in
+      inr (pick_elim (λ (r : DmaCore). Done (on_banks v r).world v) (eqb (down 65536 (channel_of v.core p.channel).das) 0)
       (record { log = refl; ram = refl }) (record { log = refl; ram = refl }))
 
   pass_credited : CreditedAt rom w d (unit_of d.progress) (Hdma (lowest d.queue)) (hdma_step rom (at w d)).world

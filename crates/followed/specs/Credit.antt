@@ -1,9 +1,9 @@
 -- Whose work a cycle's accesses are: whoever a listing names made all of them (src/dma.rs, update_dma_cycles).
-use Rattle.std.specs.Prelude.{ℕ, List, ◌⊎◌, ◌≡◌}
+use Rattle.std.specs.Prelude.{ℕ, List, ◌⊎◌, ◌≡◌, Option, None, Some}
 use Rattle.bus.specs.World.{World}
 use Rattle.dma.specs.Pass.{unqueued}
 use Rattle.hdma.specs.{Engine.at, Entry.init_channel, Line.line_channel}
-use Rattle.state.specs.declared.{Dma.Dma, DmaProgress.DmaProgress, DmaProgress.TheVariants.Nothing, DmaProgress.TheVariants.At}
+use Rattle.state.specs.declared.{Dma.Dma, DmaProgress.DmaProgress}
 use Rattle.touch.specs.declared.who.Who.{Who}
 use Rattle.touch.specs.declared.who.Who.TheVariants.{Cpu, Dma as General, Hdma}
 use Rattle.transfer.specs.Byte.{transfer_byte}
@@ -14,9 +14,9 @@ pub record Done (v w : World) : Type 0 where
   pub ram : v.ram ≡ w.ram
 
 -- the number of the byte that a transfer is at
-abbrev pub unit_of : DmaProgress → ℕ
-unit_of Nothing = 0
-unit_of (At ch u) = u
+abbrev pub unit_of : Option DmaProgress → ℕ
+unit_of None = 0
+unit_of (Some p) = p.unit
 
 -- from w to v: nothing by the CPU's cycle; nothing or one byte of a transfer; nothing or the turn of a channel, its first entry or a line
 abbrev pub CreditedAt : List ℕ → World → Dma → ℕ → Who → World → Type 0

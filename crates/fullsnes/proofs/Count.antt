@@ -6,6 +6,7 @@ use native.Mathlib.Omega.{arith}
 use borrow.Author.Tests.{eqb-true, eqb-false}
 use lib.Dec.{eqb}
 use lib.ListN.{length}
+use Rattle.std.specs.Prelude.{None}
 use Rattle.bus.specs.View.{channel_of, with_channel, with_mdmaen}
 use Rattle.bus.specs.declared.access.Core.{Core}
 use Rattle.common.proofs.TableLaws.{pick_elim, pick_case, pick-map}
@@ -15,7 +16,8 @@ use Rattle.bus.proofs.Channels.{channel-put}
 use Rattle.fullsnes.specs.Said.{bytes_of, das_after, Lasts}
 use Rattle.hdma.specs.declared.engine.DmaCore.{DmaCore}
 use Rattle.registers.specs.Groups.{with_dma_channel_das}
-use Rattle.state.specs.declared.{Dma.Dma, DmaProgress.TheVariants.Nothing, DmaProgress.TheVariants.At}
+use Rattle.state.specs.Progress.{progress_at}
+use Rattle.state.specs.declared.Dma.{Dma}
 use Rattle.transfer.specs.Bits.{down}
 
 -- what a byte leaves of a count, where i of n bytes were done before it
@@ -58,6 +60,6 @@ module _ (k : Core) (d : Dma) (ch u : ℕ) (whole : length k.io.channels ≡ 8) 
       pick_elim (λ (x : DmaCore). (channel_of x.core ch).das ≡ next) (eqb next 0) e e
 
   -- and the transfer goes on exactly where it is not 0
-  pub ends : (after_byte k d ch u).dma.progress ≡ pick (eqb next 0) Nothing (At ch ((u + 1) % 2 ^ 32))
+  pub ends : (after_byte k d ch u).dma.progress ≡ pick (eqb next 0) None (progress_at ch ((u + 1) % 2 ^ 32))
   unfolding after_byte
   ends = pick-map (λ (x : DmaCore). x.dma.progress) (eqb next 0) _ _

@@ -1,5 +1,5 @@
 -- A byte moved on the machine's bytes where they stand is the cycle's own definition.
-use Rattle.std.proofs.Common.{◌≡◌, ℕ, zero, suc, ◌+◌, ◌-◌, ◌%◌, ◌^◌, ◌<◌, ◌≤◌, Bool, true, false, not, ◌&&◌, T, eqb, ltb, leb, List, [], ◌∷◌, length, get_or, set, sym, refl, ap, ◌∙◌, subst, arith, ltb-true, leb-true}
+use Rattle.std.proofs.Common.{◌≡◌, ℕ, zero, suc, ◌+◌, ◌-◌, ◌%◌, ◌^◌, ◌<◌, ◌≤◌, Bool, true, false, not, ◌&&◌, T, eqb, ltb, leb, List, [], ◌∷◌, length, get_or, set, sym, refl, ap, ◌∙◌, subst, arith, ltb-true, leb-true, Option}
 use Rattle.common.specs.{Pick.pick, Range.within, Width.Bytes}
 use Rattle.common.proofs.RangeLaws.{below-eight}
 use Rattle.asbytes.specs.{Answer.answered, Crossed.crossed, Crossed.cycle_crossed}
@@ -30,8 +30,8 @@ use Rattle.registers.specs.{Channel.no_channel, Read.read_byte}
 use Rattle.registers.specs.Groups.{with_io-channels, with_dma_channel_a1t, with_dma_channel_das}
 use Rattle.registers.specs.declared.{Io.Io, channel.DmaChannel.DmaChannel, wm_address.WmAddress.WmAddress}
 use Rattle.signals.specs.Flags.{nmi_line}
+use Rattle.state.specs.Progress.{progress_at}
 use Rattle.state.specs.declared.{DmaProgress.DmaProgress, Machine.Machine}
-use Rattle.state.specs.declared.DmaProgress.TheVariants as progress
 use Rattle.transfer.specs.{Bits.flag_of, Bits.down, Pattern.offset_of, Pattern.b_address}
 use Rattle.transfer.specs.Byte.{trip_of, moved, moved_log, next_a1t, step_a1t, trip_at, transfer_byte}
 use Rattle.transfer.specs.declared.byte.Trip.{Trip}
@@ -110,7 +110,7 @@ four (x ∷ y ∷ z ∷ []) h = absurd (omega (arith, h))
 four (x ∷ y ∷ z ∷ w ∷ []) h = refl
 four (x ∷ y ∷ z ∷ w ∷ q ∷ l) h = absurd (omega (arith, h))
 
-abbrev in_progress : Machine → DmaProgress → Machine
+abbrev in_progress : Machine → Option DmaProgress → Machine
 in_progress m p = record { io = m.io; dma = with_progress m.dma p; board = m.board }
 
 -- a channel with its A1T and DAS moved on
@@ -122,7 +122,7 @@ abbrev moved_from : Machine → WmAddress → ℕ → List ℕ → Bool → (ch 
 moved_from m w v apu nmi ch next i a d =
     record {
       io = with_io-channels (moved_io m.io w v apu) (set m.io.channels i (moved_on (get_or m.io.channels i no_channel) a d));
-      dma = with_wait (with_progress m.dma (progress.At ch next)) 7;
+      dma = with_wait (with_progress m.dma (progress_at ch next)) 7;
       board = ticked m.board nmi;
     }
 
@@ -141,7 +141,7 @@ module _ (x : List ℕ) (w : WmAddress) (v a0 a1 a2 a3 : ℕ) (nmi : Bool) (ch u
   -- laid over the image of a machine they are the image of the machine left
   abbrev Lays : ℕ → Type 0
   Lays i =
-      laid (encode (in_progress (machine_at x) (progress.At ch u)) no_olds) w v written4 nmi ((clock_at x + 1) % 2 ^ 64) next i a d
+      laid (encode (in_progress (machine_at x) (progress_at ch u)) no_olds) w v written4 nmi ((clock_at x + 1) % 2 ^ 64) next i a d
       ≡ encode (moved_from (machine_at x) w v written4 nmi ch next i a d) no_olds
 
   lays : (i : ℕ) → i < 8 → Lays i
@@ -215,7 +215,7 @@ module _ (s : List ℕ) (r : Ready s) (byteDue : Due s) (plain : Every (trip_tes
       let at4 = four l (apu-four v) in
       let clock = (clock_at e + 1) % 2 ^ 64 in
       let from = in_progress m in
-      let before : e ≡ encode (from (progress.At ch unit)) no_olds = sym (bytes-are s r) ∙ (λ i. encode (from (byteDue.progress i)) no_olds) in
+      let before : e ≡ encode (from (progress_at ch unit)) no_olds = sym (bytes-are s r) ∙ (λ i. encode (from (byteDue.progress i)) no_olds) in
       let reg = sym (channel-is s) in
       (λ i. laid (before i) wm v (at4 i) (nmi_at e) clock next nth (next_a1t (reg i).dmap (reg i).a1t) (down 65536 (reg i).das))
       ∙ lays e wm v (get_or l 0 0) (get_or l 1 0) (get_or l 2 0) (get_or l 3 0) (nmi_at e) ch unit next a1t das nth (omega arith)
@@ -264,7 +264,7 @@ module _ (s : List ℕ) (r : Ready s) (byteDue : Due s) (plain : Every (trip_tes
     unit_left =
         record {
           core = with_channel bus.core ch (moved_on c a1t das);
-          dma = with_wait (with_progress m.dma (progress.At ch next)) 7;
+          dma = with_wait (with_progress m.dma (progress_at ch next)) 7;
         }
 
     eight : length m.io.channels ≡ 8

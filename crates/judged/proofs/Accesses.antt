@@ -13,6 +13,7 @@ use Rattle.bus.specs.{Route.system_route, Route.route_of, World.read_at, World.w
 use Rattle.bus.specs.View.{channel_of, with_channel, mdmaen_of, with_mdmaen, hdmaen_of}
 use Rattle.dma.specs.Cycle.{start_pending, due_of, acted, act_by, updated}
 use Rattle.dma.specs.General.{after_byte, step_from, dma_step}
+use Rattle.state.specs.Progress.{progress_at}
 use Rattle.state.specs.Hdma.{no_hdma}
 use Rattle.bench.proofs.Accepted.{cycle-accepted}
 use Rattle.judged.specs.Tried.{two_slots, Sizes}
@@ -21,7 +22,7 @@ use Rattle.machine.specs.Event.{pressed, evented, settled, timed}
 use Rattle.ranges.specs.Machine.{machine_ok}
 use Rattle.registers.specs.PowerOn.{power_on}
 use Rattle.signals.specs.AutoJoypad.{auto_step}
-use Rattle.state.specs.declared.{DmaProgress.TheVariants.At, DmaState.TheVariants.Dma as General, Machine.Machine}
+use Rattle.state.specs.declared.{DmaState.TheVariants.Dma as General, Machine.Machine}
 use Rattle.transfer.specs.Byte.{trip_of, moved, step_a1t, transfer_byte}
 use Rattle.transfer.specs.Pattern.{offset_of}
 
@@ -29,7 +30,7 @@ use Rattle.transfer.specs.Pattern.{offset_of}
 unfoldable pub moving : Machine
 moving = record {
   io = power_on;
-  dma = record { state = General; wait = 0; running = true; progress = At 0 0; pending = false; init = false; queue = 0; channels = replicate 8 no_hdma };
+  dma = record { state = General; wait = 0; running = true; progress = progress_at 0 0; pending = false; init = false; queue = 0; channels = replicate 8 no_hdma };
   board = record { pad1 = 0; pad2 = 0; nmi = false; bitcycles = 264; clock = 0 };
 }
 

@@ -7,6 +7,7 @@ use native.Mathlib.Omega.{arith}
 use lib.Dec.{eqb}
 use lib.ListN.{length, get_or, set, length-set}
 use lib.Seq.{get_or-set_same, set-set}
+use Rattle.std.specs.Prelude.{None}
 use Rattle.common.specs.{Pick.pick}
 use Rattle.bus.proofs.Ports.{clear-memory}
 use Rattle.bus.proofs.Seen.{Seen, seen, channel-seen, put-seen, put-log, masked-seen, masked-log}
@@ -25,8 +26,8 @@ use Rattle.hdma.specs.declared.engine.DmaCore.{DmaCore}
 use Rattle.registers.specs.Channel.{no_channel}
 use Rattle.registers.specs.Groups.{with_dma_channel_a1t, with_dma_channel_das, with_enables_mdmaen}
 use Rattle.registers.specs.declared.{Enables.Enables, channel.DmaChannel.DmaChannel}
-use Rattle.state.specs.declared.{Dma.Dma}
-use Rattle.state.specs.declared.DmaProgress.TheVariants.{Nothing, At}
+use Rattle.state.specs.Progress.{progress_at}
+use Rattle.state.specs.declared.Dma.{Dma}
 use Rattle.state.specs.declared.DmaState.TheVariants.{Dma as General}
 use Rattle.transfer.proofs.Unseen.{moved-seen, moved-log}
 use Rattle.transfer.specs.Bits.{flag_of, down, up, clear_bit}
@@ -71,8 +72,8 @@ module _ (rom : List ℕ) (cs : List DmaChannel) (d : Dma) (ch : ℕ) (eight : l
   -- what byte i leaves, by whether it was the last
   abbrev pub passed : Enables → ℕ → Bool → Plan
   passed e i done =
-      pick done (working (sight (i + 1) (with_enables_mdmaen e (clear_bit e.mdmaen ch))) d General 7 Nothing)
-      (working (sight (i + 1) e) d General 7 (At ch (i + 1)))
+      pick done (working (sight (i + 1) (with_enables_mdmaen e (clear_bit e.mdmaen ch))) d General 7 None)
+      (working (sight (i + 1) e) d General 7 (progress_at ch (i + 1)))
 
   own : ch % 8 ≡ ch
   own = omega (arith, low)
@@ -130,7 +131,7 @@ module _ (rom : List ℕ) (cs : List DmaChannel) (d : Dma) (ch : ℕ) (eight : l
           ∙ ap (λ (a : ℕ). with_channel v.core ch (with_dma_channel_a1t (gone i) a)) (a1t-step c i (omega (arith, before, most)))
 
       abbrev u : Dma
-      u = busy d General 0 (At ch i)
+      u = busy d General 0 (progress_at ch i)
 
       abbrev t : World
       t = transfer_byte rom w ch i
@@ -165,7 +166,7 @@ module _ (rom : List ℕ) (cs : List DmaChannel) (d : Dma) (ch : ℕ) (eight : l
 
       leaves-dma : (done : Bool) → (leaves done).dma ≡ (passed e i done).dma
       leaves-dma true = refl
-      leaves-dma false = let k : (i + 1) % 2 ^ 32 ≡ i + 1 = omega (arith, before, most) in ap (λ (j : ℕ). busy d General 7 (At ch j)) k
+      leaves-dma false = let k : (i + 1) % 2 ^ 32 ≡ i + 1 = omega (arith, before, most) in ap (λ (j : ℕ). busy d General 7 (progress_at ch j)) k
 
       turns : (clock : ℕ) (done : Bool) → eqb ((n - (i + 1)) % 65536) 0 ≡ done → Turns (updated rom (at w u) clock) (passed e i done) (way_at c i ∷ [])
       unfolding carried
@@ -182,5 +183,5 @@ module _ (rom : List ℕ) (cs : List DmaChannel) (d : Dma) (ch : ℕ) (eight : l
 
     -- byte i in one cycle
     pub byte-turn : (clock : ℕ) (done : Bool) → eqb ((n - (i + 1)) % 65536) 0 ≡ done
-        → Turn rom clock (working (sight i e) d General 0 (At ch i)) (passed e i done) (way_at c i ∷ [])
+        → Turn rom clock (working (sight i e) d General 0 (progress_at ch i)) (passed e i done) (way_at c i ∷ [])
     byte-turn clock done q w h l = turns w h l clock done q

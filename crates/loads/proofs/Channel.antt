@@ -8,14 +8,15 @@ use borrow.Author.Tests.{eq-eqb, ne_eqb}
 use lib.Dec.{eqb}
 use lib.ListN.{length, set}
 use lib.Seq.{set-get_or}
+use Rattle.std.specs.Prelude.{Option, None}
 use Rattle.common.specs.{Pick.pick, Width.Word}
 use Rattle.bus.proofs.Seen.{Seen}
 use Rattle.fullsnes.proofs.Count.{some}
 use Rattle.registers.specs.{Channel.no_channel, Fit.FitChannel}
 use Rattle.registers.specs.Groups.{with_dma_channel_a1t, with_dma_channel_das, with_enables_mdmaen}
 use Rattle.registers.specs.declared.{Enables.Enables, channel.DmaChannel.DmaChannel}
+use Rattle.state.specs.Progress.{progress_at}
 use Rattle.state.specs.declared.{Dma.Dma, DmaProgress.DmaProgress}
-use Rattle.state.specs.declared.DmaProgress.TheVariants.{Nothing, At}
 use Rattle.state.specs.declared.DmaState.TheVariants.{Dma as General}
 use Rattle.transfer.specs.Bits.{flag_of, lowest, clear_bit}
 use Rattle.loads.proofs.Byte.{gone, sight, passed, byte-turn}
@@ -53,7 +54,7 @@ module _ (rom : List ℕ) (cs : List DmaChannel) (d : Dma) (ch : ℕ) (eight : l
 
   -- the unit with i bytes done
   abbrev after : ℕ → Plan
-  after i = working (sight rom cs d ch eight low i e) d General 0 (At ch i)
+  after i = working (sight rom cs d ch eight low i e) d General 0 (progress_at ch i)
 
   abbrev cleared : Enables
   cleared = with_enables_mdmaen e (clear_bit e.mdmaen ch)
@@ -66,7 +67,7 @@ module _ (rom : List ℕ) (cs : List DmaChannel) (d : Dma) (ch : ℕ) (eight : l
       ∙ ap (λ (l : List DmaChannel). record { channels = l; enables = e }) (set-get_or cs ch no_channel)
 
   -- byte i and the cycles up to the next action
-  byte : (i : ℕ) (done : Bool) → i < n → eqb ((n - (i + 1)) % 65536) 0 ≡ done → {p : DmaProgress} {s : Seen}
+  byte : (i : ℕ) (done : Bool) → i < n → eqb ((n - (i + 1)) % 65536) 0 ≡ done → {p : Option DmaProgress} {s : Seen}
       → passed rom cs d ch eight low e i done ≡ working s d General 7 p → Phase rom (after i) 8 (working s d General 0 p) (way_at c i ∷ [])
   byte i done h q {p} {s} r =
       join rom 1 7 (way_at c i ∷ []) []
@@ -85,8 +86,8 @@ module _ (rom : List ℕ) (cs : List DmaChannel) (d : Dma) (ch : ℕ) (eight : l
 
   -- all of them
   pub channel : lowest e.mdmaen ≡ ch → eqb e.mdmaen 0 ≡ false
-      → Phase rom (working (record { channels = cs; enables = e }) d General 0 Nothing) (8 + 8 * n)
-      (working (record { channels = set cs ch (finished c); enables = cleared }) d General 0 Nothing) (ways_to c n)
+      → Phase rom (working (record { channels = cs; enables = e }) d General 0 None) (8 + 8 * n)
+      (working (record { channels = set cs ch (finished c); enables = cleared }) d General 0 None) (ways_to c n)
   unfolding ways_to
   channel own q =
       let k = n - 1 in
@@ -95,10 +96,10 @@ module _ (rom : List ℕ) (cs : List DmaChannel) (d : Dma) (ch : ℕ) (eight : l
       let whole : suc k ≡ n = omega (arith, least) in
       let z : (n - (k + 1)) % 65536 ≡ 0 = omega (arith, least) in
       let ended : (n - n) % 65536 ≡ 0 = omega arith in
-      let start : Plan = working s d General 0 (At ch 0) in
-      let choice = renamed rom refl ((λ i. working (sym first i) d General 0 (At (own i) 0))) refl (choosing rom s d q) in
+      let start : Plan = working s d General 0 (progress_at ch 0) in
+      let choice = renamed rom refl ((λ i. working (sym first i) d General 0 (progress_at (own i) 0))) refl (choosing rom s d q) in
       let rest = join rom (8 * k) 8 (ways_to c k) (way_at c k ∷ []) (bytes k (omega (arith, least))) (byte k true (omega (arith, least)) (eq-eqb _ _ z) refl) in
       renamed rom (omega (arith, least))
-      ((λ i. working (record { channels = set cs ch (gone rom cs d ch eight low (one i)); enables = cleared }) d General 0 Nothing)
-      ∙ (λ i. working (record { channels = set cs ch (with_dma_channel_das (with_dma_channel_a1t c (a1t_at c n)) (ended i)); enables = cleared }) d General 0 Nothing))
+      ((λ i. working (record { channels = set cs ch (gone rom cs d ch eight low (one i)); enables = cleared }) d General 0 None)
+      ∙ (λ i. working (record { channels = set cs ch (with_dma_channel_das (with_dma_channel_a1t c (a1t_at c n)) (ended i)); enables = cleared }) d General 0 None))
       (ap (ways_to c) whole) (join rom 8 (8 * k + 8) [] (ways_to c (suc k)) choice rest)

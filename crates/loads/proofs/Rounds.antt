@@ -10,12 +10,13 @@ use lib.Bits.{and_le_l}
 use lib.Dec.{T, eqb}
 use lib.ListN.{length, set, length-set}
 use lib.Seq.{get_or-set_same, get_or-set_other}
+use Rattle.std.specs.Prelude.{None}
 use Rattle.common.proofs.RangeLaws.{below-eight}
 use Rattle.common.specs.{All.AllOf, Pick.pick}
 use Rattle.registers.specs.Channel.{no_channel}
 use Rattle.registers.specs.Groups.{with_enables_mdmaen}
 use Rattle.registers.specs.declared.{Enables.Enables, channel.DmaChannel.DmaChannel}
-use Rattle.state.specs.declared.{Dma.Dma, DmaProgress.TheVariants.Nothing, DmaState.TheVariants.Dma as General}
+use Rattle.state.specs.declared.{Dma.Dma, DmaState.TheVariants.Dma as General}
 use Rattle.transfer.proofs.BitLaws.{lowest_lt}
 use Rattle.transfer.specs.Bits.{lowest, clear_bit}
 use Rattle.loads.proofs.Channel.{Fit, channel}
@@ -53,7 +54,7 @@ clash x = subst T x tt
 module _ (rom : List ℕ) (d : Dma) where
   -- the unit before it chooses, or closes
   abbrev pub ready : List DmaChannel → Enables → Plan
-  ready cs e = working (record { channels = cs; enables = e }) d General 0 Nothing
+  ready cs e = working (record { channels = cs; enables = e }) d General 0 None
 
   -- all of the channels cs that the enables e select
   pub record Round (cs : List DmaChannel) (e : Enables) (chs : List ℕ) : Type 0 where

@@ -6,6 +6,7 @@ use mathlib.Core.Path.{◌≡◌, refl, ap, ◌∙◌}
 use native.Mathlib.Omega.{arith}
 use lib.Dec.{eqb}
 use lib.ListN.{length}
+use Rattle.std.specs.Prelude.{Option, None}
 use Rattle.bus.proofs.Seen.{Seen, seen, opened-seen, opened-empty, mask-seen}
 use Rattle.bus.specs.Access.{no_log, firsts, accesses_of, opened}
 use Rattle.bus.specs.View.{mdmaen_of}
@@ -19,8 +20,8 @@ use Rattle.machine.specs.Cycle.{Turned, machine_after, settled_of, turn_of}
 use Rattle.machine.specs.Plain.{Ran, next, plain, held_at}
 use Rattle.machine.specs.declared.event.Event.TheVariants.{Nothing as NoEvent}
 use Rattle.signals.specs.Flags.{nmi_line}
+use Rattle.state.specs.Progress.{progress_at}
 use Rattle.state.specs.declared.{Dma.Dma, DmaProgress.DmaProgress, DmaState.DmaState}
-use Rattle.state.specs.declared.DmaProgress.TheVariants.{Nothing, At}
 use Rattle.state.specs.declared.DmaState.TheVariants.{Startup, Dma as General}
 use Rattle.transfer.specs.Bits.{lowest}
 use Rattle.transfer.specs.declared.byte.Trip.{Trip}
@@ -97,7 +98,7 @@ pub mask : (w : World) (s : Seen) → seen w.core.io ≡ s → mdmaen_of w.core 
 mask w s e = mask-seen w.core ∙ ap (λ (x : Seen). x.enables.mdmaen) e
 
 -- a unit at work
-abbrev pub working : Seen → Dma → DmaState → ℕ → DmaProgress → Plan
+abbrev pub working : Seen → Dma → DmaState → ℕ → Option DmaProgress → Plan
 working s d state wait progress = record { sees = s; dma = busy d state wait progress }
 
 -- an idle one
@@ -115,7 +116,7 @@ module _ (rom : List ℕ) (s : Seen) (d : Dma) where
   still a b f = step rom (record { sees = s; dma = a }) (record { sees = s; dma = b }) [] (λ clock. quiet rom s a b clock (f clock))
 
   -- n cycles of waiting
-  pub waits-out : (state : DmaState) (progress : DmaProgress) (n : ℕ) → Phase rom (working s d state n progress) n (working s d state 0 progress) []
+  pub waits-out : (state : DmaState) (progress : Option DmaProgress) (n : ℕ) → Phase rom (working s d state n progress) n (working s d state 0 progress) []
   waits-out state progress zero = stand rom (working s d state 0 progress)
   waits-out state progress (suc n) =
       renamed rom (omega arith) refl refl
@@ -123,30 +124,30 @@ module _ (rom : List ℕ) (s : Seen) (d : Dma) where
       (still (busy d state (suc n) progress) (busy d state n progress) (λ clock w h. waits-on rom w d clock state n progress))
       (waits-out state progress n))
 
-  opening : Phase rom (working s d Startup 0 Nothing) 1 (working s d General 0 Nothing) []
-  opening = still (busy d Startup 0 Nothing) (busy d General 0 Nothing) (λ clock w h. opens rom w d clock Nothing)
+  opening : Phase rom (working s d Startup 0 None) 1 (working s d General 0 None) []
+  opening = still (busy d Startup 0 None) (busy d General 0 None) (λ clock w h. opens rom w d clock None)
 
-  pub closing : eqb s.enables.mdmaen 0 ≡ true → Phase rom (working s d General 0 Nothing) 1 (resting s d) []
-  closing q = still (busy d General 0 Nothing) (idle d) (λ clock w h. closes rom w d clock (masked w h ∙ q))
+  pub closing : eqb s.enables.mdmaen 0 ≡ true → Phase rom (working s d General 0 None) 1 (resting s d) []
+  closing q = still (busy d General 0 None) (idle d) (λ clock w h. closes rom w d clock (masked w h ∙ q))
 
   -- the lowest channel is chosen: 8 cycles
-  pub choosing : eqb s.enables.mdmaen 0 ≡ false → Phase rom (working s d General 0 Nothing) 8 (working s d General 0 (At (lowest s.enables.mdmaen) 0)) []
+  pub choosing : eqb s.enables.mdmaen 0 ≡ false → Phase rom (working s d General 0 None) 8 (working s d General 0 (progress_at (lowest s.enables.mdmaen) 0)) []
   choosing q =
-      let on = At (lowest s.enables.mdmaen) 0 in
+      let on = progress_at (lowest s.enables.mdmaen) 0 in
       join rom 1 7 [] []
-      (still (busy d General 0 Nothing) (busy d General 7 on)
-      (λ clock w h. chooses rom w d clock (masked w h ∙ q) ∙ ap (λ (n : ℕ). holding (at w (busy d General 7 (At (lowest n) 0)))) (mask w s h)))
+      (still (busy d General 0 None) (busy d General 7 on)
+      (λ clock w h. chooses rom w d clock (masked w h ∙ q) ∙ ap (λ (n : ℕ). holding (at w (busy d General 7 (progress_at (lowest n) 0)))) (mask w s h)))
       (waits-out General on 7)
 
   -- from the first cycle to the first choice: alignment + 8
   pub starting : eqb s.enables.mdmaen 0 ≡ false → (x : Ran) → plan_of x.machine ≡ resting s d
-      → Goes rom x (alignment x.machine.board.clock + 8) (working s d General 0 Nothing) []
+      → Goes rom x (alignment x.machine.board.clock + 8) (working s d General 0 None) []
   starting q x e =
       let clock = x.machine.board.clock in
       let n = alignment clock + 6 in
-      let wait = busy d Startup n Nothing in
-      let first = one rom (resting s d) (working s d Startup n Nothing) [] x e (quiet rom s (idle d) wait clock (λ w h. starts rom w d clock (masked w h ∙ q))) in
-      named rom (omega arith) refl refl (goes_on rom x 1 (n + 1) [] [] first (join rom n 1 [] [] (waits-out Startup Nothing n) opening))
+      let wait = busy d Startup n None in
+      let first = one rom (resting s d) (working s d Startup n None) [] x e (quiet rom s (idle d) wait clock (λ w h. starts rom w d clock (masked w h ∙ q))) in
+      named rom (omega arith) refl refl (goes_on rom x 1 (n + 1) [] [] first (join rom n 1 [] [] (waits-out Startup None n) opening))
 
   -- an idle unit with none asked for does not hold
   pub rests : eqb s.enables.mdmaen 0 ≡ true → (x : Ran) → plan_of x.machine ≡ resting s d → (next rom x).held ≡ false

@@ -1,5 +1,5 @@
 -- Document 02, 5/12: a whole transfer in one sentence.
-use Rattle.std.specs.Prelude.{ℕ, ◌+◌, ◌≤◌, ◌<◌, ◌^◌, Bool, true, false, List, ◌≢◌, ◌≡◌, length}
+use Rattle.std.specs.Prelude.{ℕ, ◌+◌, ◌≤◌, ◌<◌, ◌^◌, Bool, true, false, List, ◌≢◌, ◌≡◌, length, None}
 use Rattle.common.specs.{All.AllOf, Pick.pick}
 use Rattle.bench.specs.Calls.{Desk, lent_of}
 use Rattle.bus.specs.declared.access.Access.{Access}
@@ -7,7 +7,7 @@ use Rattle.machine.specs.Plain.{begin, plain, held_at}
 use Rattle.registers.specs.declared.channel.DmaChannel.{DmaChannel}
 use Rattle.rewind.specs.Run.{TypedDesk}
 use Rattle.state.specs.Fit.{FitMachine}
-use Rattle.state.specs.declared.{DmaProgress.TheVariants.Nothing, DmaState.TheVariants.Idle, Machine.Machine}
+use Rattle.state.specs.declared.{DmaState.TheVariants.Idle, Machine.Machine}
 use Rattle.wram.specs.Banks.{Banks}
 use Rattle.loads.specs.Calls.{asked, calls, answered}
 use Rattle.loads.specs.Load.{bit, channel_at, channels_of, many, a1t_at, ways_of, carried, holds, finished, registers}
@@ -23,7 +23,7 @@ pub record Ready (m : Machine) : Type 0 where
   pub wait_0 : m.dma.wait ≡ 0
   -- nothing running, no progress and no HDMA pending
   pub not-running : m.dma.running ≡ false
-  pub no_progress : m.dma.progress ≡ Nothing
+  pub no_progress : m.dma.progress ≡ None
   pub none-pending : m.dma.pending ≡ false
   -- HDMAEN 0: not needed, since with no line due and no frame start no pass becomes pending; with it, in turn, events, lines due and timers would
   -- not matter to the unit

@@ -21,35 +21,37 @@ pub struct Turn {
 }
 
 // With HDMAEN not 0 a line due makes a pass pending, and a frame's start one that initialises.
+#[tactic(auto, unfolding(crate::specs::Cycle::armed))]
 fn arm(d: Dma, mask: u8, frame: bool, line: bool) -> Dma
     ensures { result ≡ armed d mask frame line }
 {
     if mask == 0 {
         return d;
     }
-    let mut out = d;
-    let p = d.pending | frame | line;
-    let i = d.init | frame;
-    out.pending = p;
-    out.init = i;
-    out
+    Dma {
+        pending: d.pending || frame || line,
+        init: d.init || frame,
+        ..d
+    }
 }
 
 fn rises(was: bool, line: bool) -> bool
     ensures { result ≡ rising was line }
 {
-    line & !was
+    line && !was
 }
 
 fn tick(b: Board, nmi: bool) -> Board
     ensures { result ≡ ticked b nmi }
 {
-    let mut o = b;
-    o.nmi = nmi;
-    o.clock = std::num::wrapping_add_u64(b.clock, 1);
-    o
+    Board {
+        nmi,
+        clock: b.clock.wrapping_add(1),
+        ..b
+    }
 }
 
+#[tactic(auto, unfolding(crate::specs::Cycle::cycled))]
 pub fn cycle(
     m: Machine,
     low: &mut [u8],
@@ -61,31 +63,17 @@ pub fn cycle(
 ) -> Turn
     ensures { turning result low.new high.new ≡ cycled rom.now m low.old high.old event line hit }
 {
-    let io = m.io;
-    let dma = m.dma;
     let b = m.board;
-    let frame = is_frame(event);
-    let io1 = settle(io, b.pad1, b.pad2, event, b.bitcycles);
-    let nmi = nmi_line(io1);
-    let edge = rises(b.nmi, nmi);
-    let io2 = time_up(io1, hit);
-    let core = opened_core(io2);
-    let mask = hdmaen_of(core);
-    let d1 = arm(dma, mask, frame, line);
-    let unit = DmaCore {
-        core: core,
-        dma: d1,
-    };
-    let c = update_dma_cycles(unit, low, high, rom, b.clock);
-    let after = c.after;
-    let k = after.core;
-    let d2 = after.dma;
-    let b2 = tick(b, nmi);
+    let io = settle(m.io, b.pad1, b.pad2, event, b.bitcycles);
+    let nmi = nmi_line(io);
+    let core = opened_core(time_up(io, hit));
+    let dma = arm(m.dma, hdmaen_of(core), is_frame(event), line);
+    let c = update_dma_cycles(DmaCore { core, dma }, low, high, rom, b.clock);
     Turn {
-        core: k,
-        dma: d2,
-        board: b2,
+        core: c.after.core,
+        dma: c.after.dma,
+        board: tick(b, nmi),
         held: c.held,
-        edge: edge,
+        edge: rises(b.nmi, nmi),
     }
 }

@@ -2,8 +2,9 @@
 ghost use Rattle.std.specs.Prelude.{◌≡◌};
 ghost use Rattle.machine.specs.PowerOn.{power_on_dma, power_on_machine};
 
-use state::{Board, Dma, DmaProgress, DmaState, HdmaChannelState, Machine};
+use state::{Board, Dma, DmaState, HdmaChannelState, Machine};
 
+#[tactic(auto, unfolding(crate::specs::PowerOn::power_on_dma))]
 fn power_on_dma() -> Dma
     ensures { result ≡ power_on_dma }
 {
@@ -11,7 +12,7 @@ fn power_on_dma() -> Dma
         state: DmaState::Idle,
         wait: 0,
         running: false,
-        progress: DmaProgress::Nothing,
+        progress: None,
         pending: false,
         init: false,
         queue: 0,
@@ -23,19 +24,18 @@ fn power_on_dma() -> Dma
     }
 }
 
+#[tactic(auto, unfolding(crate::specs::PowerOn::power_on_machine))]
 pub fn power_on_machine(bitcycles: u16) -> Machine
     ensures { result ≡ power_on_machine bitcycles }
 {
-    let io = registers::power_on::power_on();
-    let dma = power_on_dma();
     Machine {
-        io: io,
-        dma: dma,
+        io: registers::power_on::power_on(),
+        dma: power_on_dma(),
         board: Board {
             pad1: 0,
             pad2: 0,
             nmi: false,
-            bitcycles: bitcycles,
+            bitcycles,
             clock: 0,
         },
     }

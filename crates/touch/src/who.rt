@@ -13,58 +13,43 @@ pub enum Who {
     Hdma { channel: u8 },
 }
 
-fn who_from(progress: DmaProgress) -> Who
+fn who_from(progress: Option<DmaProgress>) -> Who
     ensures { result ≡ who_from progress }
 {
     match progress {
-        DmaProgress::Nothing => Who::Cpu,
-        DmaProgress::At { channel, unit } => Who::Dma { channel: channel },
+        None => Who::Cpu,
+        Some(p) => Who::Dma { channel: p.channel },
     }
 }
 
 // A pass serves the lowest channel of its queue; else the transfer in progress has the bus.
+#[tactic(auto, unfolding(crate::specs::Who::who_of))]
 pub fn who_of(d: Dma) -> Who
     ensures { result ≡ who_of d }
 {
-    let state = d.state;
-    let progress = d.progress;
-    match state {
-        DmaState::Idle => Who::Cpu,
-        DmaState::Startup => Who::Cpu,
-        DmaState::Dma => who_from(progress),
-        DmaState::Hdma => {
-            let ch = lowest_bit(d.queue);
-            Who::Hdma { channel: ch }
-        }
+    match d.state {
+        DmaState::Idle | DmaState::Startup => Who::Cpu,
+        DmaState::Dma => who_from(d.progress),
+        DmaState::Hdma => Who::Hdma {
+            channel: lowest_bit(d.queue),
+        },
     }
 }
 
 // The first byte of a transfer whose byte count is 0.
-fn starts_from(io: Io, progress: DmaProgress) -> bool
+fn starts_from(io: Io, progress: Option<DmaProgress>) -> bool
     ensures { result ≡ starts_from io progress }
 {
     match progress {
-        DmaProgress::Nothing => false,
-        DmaProgress::At { channel, unit } => {
-            let i = (channel % 8) as usize;
-            let c = io.channels[i];
-            (unit == 0) & (c.das == 0)
-        }
+        None => false,
+        Some(p) => p.unit == 0 && io.channels[(p.channel % 8) as usize].das == 0,
     }
 }
 
 // Only where a general transfer has the bus.
+#[tactic(auto, unfolding(crate::specs::Who::starts_at_zero))]
 pub fn starts_at_zero(m: Machine) -> bool
     ensures { result ≡ starts_at_zero m }
 {
-    let io = m.io;
-    let dma = m.dma;
-    let state = dma.state;
-    let progress = dma.progress;
-    match state {
-        DmaState::Idle => false,
-        DmaState::Startup => false,
-        DmaState::Dma => starts_from(io, progress),
-        DmaState::Hdma => false,
-    }
+    m.dma.state == DmaState::Dma && starts_from(m.io, m.dma.progress)
 }

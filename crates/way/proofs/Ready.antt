@@ -24,7 +24,7 @@ use Rattle.ranges.proofs.Tests.{Every, every}
 use Rattle.registers.specs.Channel.{no_channel}
 use Rattle.registers.specs.declared.channel.DmaChannel.{DmaChannel}
 use Rattle.registers.specs.declared.pads.AutoJoypad.TheVariants as auto
-use Rattle.state.specs.declared.DmaProgress.TheVariants as progress
+use Rattle.state.specs.Progress.{progress_at}
 use Rattle.state.specs.declared.DmaState.TheVariants as state
 use Rattle.state.specs.declared.Machine.{Machine}
 use Rattle.transfer.specs.{Bits.down, Pattern.offset_of, Pattern.b_address}
@@ -167,7 +167,7 @@ pub record Due (s : List ℕ) : Type 0 where
   pub wait : (machine_in s).dma.wait ≡ 0
   pub pending : (machine_in s).dma.pending ≡ false
   pub state : (machine_in s).dma.state ≡ state.Dma
-  pub progress : (machine_in s).dma.progress ≡ progress.At (num (head_of s) the.channel) (unit_at (head_of s))
+  pub progress : (machine_in s).dma.progress ≡ progress_at (num (head_of s) the.channel) (unit_at (head_of s))
   pub more : eqb (down 65536 (channel_in s).das) 0 ≡ false
 
 pub due : (s : List ℕ) → Every (due_tests (seen (head_of s))) → Due s

@@ -1,5 +1,5 @@
 -- The sum of the banks: bytes added one after the other; a byte put at a place; old bytes that go back.
-use Rattle.std.proofs.Common.{◌≡◌, ℕ, zero, suc, ◌+◌, ◌-◌, ◌*◌, ◌%◌, ◌^◌, ◌<◌, ◌≤◌, min, Bool, true, false, not, ◌&&◌, eqb, ltb, List, [], ◌∷◌, ◌++◌, length, get_or, take, set, sym, refl, ap, ◌∙◌, true≢false, length-set, take_all, get_or-set_other, take-suc, get_or-set_same, ltb-true, le-ltb, lt-ltb, eq-eqb, eqb-true}
+use Rattle.std.proofs.Common.{Option, None, Some, ◌≡◌, ℕ, zero, suc, ◌+◌, ◌-◌, ◌*◌, ◌%◌, ◌^◌, ◌<◌, ◌≤◌, min, Bool, true, false, not, ◌&&◌, eqb, ltb, List, [], ◌∷◌, ◌++◌, length, get_or, take, set, sym, refl, ap, ◌∙◌, true≢false, length-set, take_all, get_or-set_other, take-suc, get_or-set_same, ltb-true, le-ltb, lt-ltb, eq-eqb, eqb-true}
 use mathlib.Core.Bool.{beq, and-eq-true_iff}
 use native.Mathlib.{Decide.dec_lt, Nat.mod-add-mod, Omega.arith}
 use lib.Seq.{set_out}
@@ -9,7 +9,7 @@ use Rattle.wram.specs.Olds.{no_old, old_place, back_from, put_back}
 use Rattle.wram.specs.Change.{same_place, first_there, inside, counts, stands, stood, change_of}
 use Rattle.wram.specs.Sum.{total, ram_sum, follows}
 use Rattle.wram.specs.declared.{Old.Old, Olds.Olds, Place.Place, sum.Change.Change}
-use Rattle.wram.specs.declared.Place.TheVariants.{Nowhere, Bank7E, Bank7F}
+use Rattle.wram.specs.declared.Place.TheVariants.{Bank7E, Bank7F}
 
 -- ---- added up
 
@@ -54,25 +54,25 @@ bank-set l a v = elim (dec_lt a (length l)) [
   | no h ↦ rw (le-ltb a (length l) (omega arith), set_out l a v (omega arith)) refl
 ]
 
-whole-poked : (b : Banks) (p : Place) (v : ℕ) → whole (poked b p v) + pick (inside b p) (peeked b p) 0 ≡ whole b + pick (inside b p) v 0
-whole-poked b Nowhere v = refl
-whole-poked b (Bank7E a) v = omega (arith, bank-set b.low a v)
-whole-poked b (Bank7F a) v = omega (arith, bank-set b.high a v)
+whole-poked : (b : Banks) (p : Option Place) (v : ℕ) → whole (poked b p v) + pick (inside b p) (peeked b p) 0 ≡ whole b + pick (inside b p) v 0
+whole-poked b None v = refl
+whole-poked b (Some (Bank7E a)) v = omega (arith, bank-set b.low a v)
+whole-poked b (Some (Bank7F a)) v = omega (arith, bank-set b.high a v)
 
-inside-poked : (b : Banks) (p q : Place) (v : ℕ) → inside (poked b p v) q ≡ inside b q
-inside-poked b Nowhere q v = refl
-inside-poked b (Bank7E a) Nowhere v = refl
-inside-poked b (Bank7E a) (Bank7E c) v = rw (length-set b.low a v) refl
-inside-poked b (Bank7E a) (Bank7F c) v = refl
-inside-poked b (Bank7F a) Nowhere v = refl
-inside-poked b (Bank7F a) (Bank7E c) v = refl
-inside-poked b (Bank7F a) (Bank7F c) v = rw (length-set b.high a v) refl
+inside-poked : (b : Banks) (p q : Option Place) (v : ℕ) → inside (poked b p v) q ≡ inside b q
+inside-poked b None q v = refl
+inside-poked b (Some (Bank7E a)) None v = refl
+inside-poked b (Some (Bank7E a)) (Some (Bank7E c)) v = rw (length-set b.low a v) refl
+inside-poked b (Some (Bank7E a)) (Some (Bank7F c)) v = refl
+inside-poked b (Some (Bank7F a)) None v = refl
+inside-poked b (Some (Bank7F a)) (Some (Bank7E c)) v = refl
+inside-poked b (Some (Bank7F a)) (Some (Bank7F c)) v = rw (length-set b.high a v) refl
 
 -- read back there
-peeked-same : (b : Banks) (p : Place) (v : ℕ) → inside b p ≡ true → peeked (poked b p v) p ≡ v
-peeked-same b Nowhere v h = absurd (true≢false (sym h))
-peeked-same b (Bank7E a) v h = get_or-set_same b.low a v 0 (ltb-true a (length b.low) h)
-peeked-same b (Bank7F a) v h = get_or-set_same b.high a v 0 (ltb-true a (length b.high) h)
+peeked-same : (b : Banks) (p : Option Place) (v : ℕ) → inside b p ≡ true → peeked (poked b p v) p ≡ v
+peeked-same b None v h = absurd (true≢false (sym h))
+peeked-same b (Some (Bank7E a)) v h = get_or-set_same b.low a v 0 (ltb-true a (length b.low) h)
+peeked-same b (Some (Bank7F a)) v h = get_or-set_same b.high a v 0 (ltb-true a (length b.high) h)
 
 -- ---- places of old bytes
 
@@ -90,8 +90,8 @@ module _ (o p : Old) (e : same_place o p ≡ true) where
   high_same : o.high ≡ p.high
   high_same = beq_same o.high p.high ((and-eq-true_iff (eqb o.addr p.addr) (beq o.high p.high)).0 e).1
 
-  one_place : old_place o ≡ old_place p
-  one_place = λ i. pick (high_same i) (Bank7F (addr_same i)) (Bank7E (addr_same i))
+  one_place : ◌≡◌ {A = Option Place} (Some (old_place o)) (Some (old_place p))
+  one_place = λ i. Some (pick (high_same i) (Bank7F (addr_same i)) (Bank7E (addr_same i)))
 
   -- they are the first of it together, or neither is
   first-same : (n : ℕ) (olds : Olds) → first_there n olds o ≡ first_there n olds p
@@ -104,14 +104,14 @@ module _ (o p : Old) (e : same_place o p ≡ true) where
 -- a byte put at another place
 module _ (o p : Old) (b : Banks) (v : ℕ) where
   pick_other : (h k : Bool) → eqb o.addr p.addr && beq h k ≡ false
-      → peeked (poked b (pick k (Bank7F p.addr) (Bank7E p.addr)) v) (pick h (Bank7F o.addr) (Bank7E o.addr))
-      ≡ peeked b (pick h (Bank7F o.addr) (Bank7E o.addr))
+      → peeked (poked b (Some (pick k (Bank7F p.addr) (Bank7E p.addr))) v) (Some (pick h (Bank7F o.addr) (Bank7E o.addr)))
+      ≡ peeked b (Some (pick h (Bank7F o.addr) (Bank7E o.addr)))
   pick_other true true q = get_or-set_other b.high p.addr o.addr v 0 (λ e. true≢false (rw (eq-eqb o.addr p.addr e) at q))
   pick_other true false q = refl
   pick_other false true q = refl
   pick_other false false q = get_or-set_other b.low p.addr o.addr v 0 (λ e. true≢false (rw (eq-eqb o.addr p.addr e) at q))
 
-  other_place : same_place o p ≡ false → peeked (poked b (old_place p) v) (old_place o) ≡ peeked b (old_place o)
+  other_place : same_place o p ≡ false → peeked (poked b (Some (old_place p)) v) (Some (old_place o)) ≡ peeked b (Some (old_place o))
   other_place e = pick_other o.high p.high e
 
 -- ---- old bytes that go back
@@ -137,12 +137,12 @@ module _ (olds : Olds) where
 
   -- what stands at the place of old byte n, where it counts
   abbrev term : ℕ → Banks → ℕ
-  term n b = pick (counts n olds b) (peeked b (old_place (old n))) 0
+  term n b = pick (counts n olds b) (peeked b (Some (old_place (old n)))) 0
 
   -- a byte v put at the place of x
   module _ (b : Banks) (x : Old) (v : ℕ) where
-    abbrev p : Place
-    p = old_place x
+    abbrev p : Option Place
+    p = Some (old_place x)
 
     abbrev b' : Banks
     b' = poked b p v
@@ -163,7 +163,7 @@ module _ (olds : Olds) where
     other_step : (n : ℕ) → same_place (old n) x ≡ false → Moves n (first_there n olds x) → Moves (suc n) (first_there n olds x && true)
     unfolding stands
     other_step n e h =
-        let q = old_place (old n) in
+        let q = Some (old_place (old n)) in
         let after : term n b' ≡ term n b = λ i. pick (first_there n olds (old n) && inside-poked b p q v i) (other_place (old n) x b v e i) 0 in
         rw after (other-more (stands n olds b) (stands n olds b') v (peeked b p) (term n b) (first_there n olds x) (inside b p) h)
 
@@ -176,10 +176,10 @@ module _ (olds : Olds) where
     moves zero = refl
     moves (suc n) = step n (same_place (old n) x) refl (moves n)
 
-  stood-poked : (b : Banks) (q : Place) (v n : ℕ) → stood n olds (poked b q v) ≡ stood n olds b
+  stood-poked : (b : Banks) (q : Option Place) (v n : ℕ) → stood n olds (poked b q v) ≡ stood n olds b
   unfolding stood
   stood-poked b q v zero = refl
-  stood-poked b q v (suc n) = λ i. stood-poked b q v n i + pick (first_there n olds (old n) && inside-poked b q (old_place (old n)) v i) (old n).byte 0
+  stood-poked b q v (suc n) = λ i. stood-poked b q v n i + pick (first_there n olds (old n) && inside-poked b q (Some (old_place (old n))) v i) (old n).byte 0
 
   -- the last of them, put back first: s is what stands at the others' places and t what stood there, w the byte that it takes the place of
   last-back : (first here : Bool) (s s' t w v all all' end : ℕ) → end + s' ≡ all' + t → all' + pick here w 0 ≡ all + pick here v 0
@@ -195,7 +195,7 @@ module _ (olds : Olds) where
   unfolding back_from stands stood
   whole_back zero b = refl
   whole_back (suc n) b =
-      let q = old_place (old n) in
+      let q = Some (old_place (old n)) in
       let v = (old n).byte in
       let c = poked b q v in
       let ih = whole_back n c ∙ ap (λ (k : ℕ). whole c + k) (stood-poked b q v n) in
@@ -233,15 +233,15 @@ module _ (n : ℕ) (olds : Olds) (b : Banks) where
   exchanged-none h = record { done = omega arith; few = h; up_is = refl; down_is = refl; up-most = omega arith; down-most = omega arith }
 
   pub exchanged-next : (up down i : ℕ) {o : Old} {p : Place} {first here : Bool} {w v w' : ℕ} → Exchanged n olds b up down i → i < n → o ≡ get_or olds.items i no_old
-      → p ≡ old_place o → first ≡ first_there i olds o → here ≡ inside b p → w ≡ peeked b p → w' ≡ pick (first && here) w 0 → v ≡ pick (first && here) o.byte 0
+      → p ≡ old_place o → first ≡ first_there i olds o → here ≡ inside b (Some p) → w ≡ peeked b (Some p) → w' ≡ pick (first && here) w 0 → v ≡ pick (first && here) o.byte 0
       → w' < 256 → v < 256 → Exchanged n olds b (up + w') (down + v) (i + 1)
   unfolding stands stood
   exchanged-next up down i x h eo ep ef eh ew ew' ev fw fv =
       let k : i + 1 ≡ suc i = omega arith in
       let p = old_place (old olds i) in
-      let here = eh ∙ ap (inside b) (ep ∙ ap old_place eo) in
+      let here = eh ∙ ap (λ (x : Place). inside b (Some x)) (ep ∙ ap old_place eo) in
       let first = ef ∙ ap (first_there i olds) eo in
-      let stands_here = ew' ∙ (λ j. pick (first j && here j) ((ew ∙ ap (peeked b) (ep ∙ ap old_place eo)) j) 0) in
+      let stands_here = ew' ∙ (λ j. pick (first j && here j) ((ew ∙ ap (λ (x : Place). peeked b (Some x)) (ep ∙ ap old_place eo)) j) 0) in
       let stood-here = ev ∙ (λ j. pick (first j && here j) (eo j).byte 0) in
       rw k
       (record {
@@ -309,7 +309,7 @@ module _ (sum : ℕ) (b : Banks) where
     follow-before d fit = follow-by sum x.stood x.stands b (put_back olds b) change-is d fit
 
   -- a byte put where the banks have a place, and where they have none
-  module _ (p : Place) (v : ℕ) {here : Bool} (is : here ≡ inside b p) where
+  module _ (p : Option Place) (v : ℕ) {here : Bool} (is : here ≡ inside b p) where
     pub follow-put : {w r : ℕ} → here ≡ true → w ≡ peeked b p → (r + w) % 2 ^ 32 ≡ (sum + v) % 2 ^ 32 → r < 2 ^ 32 → r ≡ follows sum b (poked b p v)
     follow-put {w} {r} t q d fit =
         follow-by sum v (peeked b p) b (poked b p v) (rw (sym is ∙ t) at (whole-poked b p v)) (ap (λ (k : ℕ). (r + k) % 2 ^ 32) (sym q) ∙ d) fit

@@ -33,7 +33,7 @@ pub record FitReading (r : Reading) : Type 0 where
   pub world : FitWorld r.world
   pub byte : Byte r.byte
 
-wm-fits : (b : WmAddBank) {a : ℕ} → Word a → FitPlace (wm_place b a)
+wm-fits : (b : WmAddBank) {a : ℕ} → Word a → FitPlace (Some (wm_place b a))
 wm-fits wm.Bank7E h = h
 wm-fits wm.Bank7F h = h
 

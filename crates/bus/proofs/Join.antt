@@ -1,13 +1,13 @@
 -- The steps of an access, joined into its definition.
-use Rattle.std.proofs.Common.{◌≡◌, ℕ, true, false, List}
+use Rattle.std.proofs.Common.{◌≡◌, ℕ, true, false, List, Option}
 use Rattle.registers.specs.declared.{Io.Io, read.IoRead.IoRead}
 use Rattle.wram.specs.Banks.{Banks, peeked, poked}
-use Rattle.wram.specs.{Olds.kept_at, declared.Olds.Olds, declared.Place.Place}
+use Rattle.wram.specs.{Olds.kept_at, Olds.Olds, declared.Place.Place}
 use Rattle.bus.specs.Access.{push_access, io_written, register_read}
 use Rattle.bus.specs.{Route.route_of, Route.place_of, declared.access.Log.Log, declared.route.Route.Route}
 use Rattle.bus.specs.World.{World, Reading, core, read_at, write_at}
 
-module _ (w : World) (b a : ℕ) {way : Route} {p : Place} (e : way ≡ route_of b a) (f : p ≡ place_of w.core.io.wmadd way a) where
+module _ (w : World) (b a : ℕ) {way : Route} {p : Option Place} (e : way ≡ route_of b a) (f : p ≡ place_of w.core.io.wmadd way a) where
   pub read_by : (rom : List ℕ) {held : ℕ} {g : IoRead} {log : Log} → held ≡ peeked w.ram p → g ≡ register_read rom w.core.io way b a held
       → log ≡ push_access w.core.log (record { write = false; bank = b; addr = a; byte = g.byte })
       → ◌≡◌ {A = Reading} (record { world = record { core = core g.io log w.core.olds; ram = w.ram }; byte = g.byte }) (read_at rom w b a)

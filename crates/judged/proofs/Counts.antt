@@ -20,7 +20,7 @@ use Rattle.layout.specs.Layout.{capacity}
 use Rattle.machine.proofs.Adds.{cycle-recorded}
 use Rattle.machine.specs.Cycle.{Turned, cycled}
 use Rattle.state.specs.declared.Machine.{Machine}
-use Rattle.wram.specs.declared.Olds.{Olds}
+use Rattle.wram.specs.Olds.{Olds}
 
 -- the counts beside the machine after one more entry
 pub record Counted (d : Desk) (b : Bench) : Type 0 where

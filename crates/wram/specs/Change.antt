@@ -3,8 +3,8 @@ use Rattle.std.specs.Prelude.{ℕ, zero, suc, ◌+◌, min, Bool, true, false, O
 use Rattle.std.specs.Bool.{beq}
 use Rattle.common.specs.Pick.{pick}
 use Rattle.wram.specs.Banks.{Banks, peeked}
-use Rattle.wram.specs.Olds.{no_old, old_place}
-use Rattle.wram.specs.declared.{Old.Old, Olds.Olds, Place.Place, sum.Change.Change}
+use Rattle.wram.specs.Olds.{Olds, no_old, old_place}
+use Rattle.wram.specs.declared.{Old.Old, Place.Place, sum.Change.Change}
 use Rattle.wram.specs.declared.Place.TheVariants.{Bank7E, Bank7F}
 
 -- whether two old bytes are of one place

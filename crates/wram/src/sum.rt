@@ -1,12 +1,11 @@
 // The sum of all bytes of work RAM, modulo 2^32: added up once, then kept by difference.
 ghost use Rattle.std.specs.Prelude.{◌≡◌, ◌+◌, ◌%◌, ◌^◌, ◌≤◌};
-ghost use Rattle.common.specs.Pick.{pick};
 ghost use Rattle.wram.specs.Banks.{banks, poked};
 ghost use Rattle.wram.specs.Olds.{put_back};
 ghost use Rattle.wram.specs.Change.{same_place, first_there, inside, change_of};
 ghost use Rattle.wram.specs.Sum.{total, ram_sum, follows};
 
-use crate::{Old, Olds, Place, peek, place_of, stored};
+use crate::{Old, Olds, Place, peek, place_of};
 
 fn bank_sum(bank: &[u8]) -> u32
     ensures { result ≡ total bank.now % 2 ^ 32 }
@@ -27,7 +26,7 @@ pub fn ram_sum(low: &[u8], high: &[u8]) -> u32
 fn same_place(a: Old, b: Old) -> bool
     ensures { result ≡ same_place a b }
 {
-    (a.addr == b.addr) & (a.high == b.high)
+    (a.addr, a.high) == (b.addr, b.high)
 }
 
 // Whether none of the first n old bytes is of the same place.
@@ -35,15 +34,12 @@ fn first_there(olds: Olds, n: usize, old: Old) -> bool
     requires { n ≤ 4 }
     ensures { result ≡ first_there n olds old }
 {
-    let mut first = true;
-    let mut i: usize = 0;
-    while i < n {
-        let other = olds.items[i];
-        let same = same_place(other, old);
-        first = first & !same;
-        i += 1;
+    for other in &olds.items[..n] {
+        if same_place(*other, old) {
+            return false;
+        }
     }
-    first
+    true
 }
 
 fn inside(low: &[u8], high: &[u8], place: Option<Place>) -> bool
@@ -54,12 +50,6 @@ fn inside(low: &[u8], high: &[u8], place: Option<Place>) -> bool
         Some(Place::Bank7E(at)) => (at as usize) < low.len(),
         Some(Place::Bank7F(at)) => (at as usize) < high.len(),
     }
-}
-
-fn only_if(on: bool, value: u8) -> u8
-    ensures { result ≡ pick on value 0 }
-{
-    if on { value } else { 0 }
 }
 
 // The bytes that stand at the places written, and those that stood there before the operation, each place once.
@@ -73,17 +63,14 @@ struct Change {
 fn exchanged(low: &[u8], high: &[u8], olds: Olds) -> Change
     ensures { result ≡ change_of olds (banks low.now high.now) }
 {
-    let n = stored(olds);
     let mut stands: u32 = 0;
     let mut stood: u32 = 0;
-    let mut i: usize = 0;
-    while i < n {
-        let old = olds.items[i];
-        let place = Some(place_of(old));
-        let counts = first_there(olds, i, old) & inside(low, high, place);
-        stands += only_if(counts, peek(low, high, place)) as u32;
-        stood += only_if(counts, old.byte) as u32;
-        i += 1;
+    for (i, old) in olds.held().iter().enumerate() {
+        let place = Some(place_of(*old));
+        if first_there(olds, i, *old) & inside(low, high, place) {
+            stands += peek(low, high, place) as u32;
+            stood += old.byte as u32;
+        }
     }
     Change { stands, stood }
 }

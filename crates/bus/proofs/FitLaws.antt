@@ -1,5 +1,5 @@
 -- An access keeps registers, bytes overwritten and banks in their widths, and reads a byte.
-use Rattle.std.proofs.Common.{ℕ, ◌%◌, ltb, List, length, ◌∙◌, arith, length-set}
+use Rattle.std.proofs.Common.{Some, ℕ, ◌%◌, ltb, List, length, ◌∙◌, arith, length-set}
 use Rattle.common.specs.All.{AllOf}
 use Rattle.common.proofs.AllLaws.{all_set, all_get_or, byte_fits}
 use Rattle.common.proofs.TableLaws.{pick_elim}

@@ -3,9 +3,9 @@ use Rattle.std.specs.Prelude.{ℕ, true, false, List, Option}
 use Rattle.registers.specs.declared.{Io.Io, read.IoRead.IoRead}
 use Rattle.wram.specs.Banks.{Banks, banks, peeked, poked}
 use Rattle.wram.specs.{Olds.kept_at, Olds.Olds, declared.Place.Place}
-use Rattle.bus.specs.Access.{push_access, io_written, register_read}
+use Rattle.bus.specs.Access.{Log, push_access, io_written, register_read}
 use Rattle.bus.specs.Route.{route_of, place_of}
-use Rattle.bus.specs.declared.{access.BusRead.BusRead, access.Core.Core, access.Log.Log}
+use Rattle.bus.specs.declared.{access.BusRead.BusRead, access.Core.Core}
 
 -- what stands on the bus: registers, log and bytes overwritten, and both banks
 pub record World : Type 0 where

@@ -3,9 +3,9 @@
 use Rattle.std.specs.Prelude.{ℕ, ◌-◌, Bool, false, List, [], ◌∷◌, eqb, length}
 use Rattle.common.specs.Pick.{pick}
 use Rattle.common.specs.Table.{Entry, at, find}
+use Rattle.bus.specs.Access.{Log}
 use Rattle.bus.specs.{Access.no_log, Access.opened, Route.cost_of}
 use Rattle.bus.specs.World.{World, Reading, read_at, write_at}
-use Rattle.bus.specs.declared.access.Log.{Log}
 use Rattle.entry.specs.Entry.{decode_at}
 use Rattle.entry.specs.declared.Decoded.{Decoded}
 use Rattle.layout.specs.Layout.{capacity}

@@ -7,7 +7,6 @@ use lib.Dec.{eqb}
 use Rattle.common.specs.Pick.{pick}
 use Rattle.ring.specs.Slots.{bench}
 use Rattle.ring.specs.declared.Bench.{Bench}
-use Rattle.bus.specs.declared.access.Log.{Log}
 use Rattle.decode.specs.Decode.{machine_at}
 use Rattle.fields.specs.{Little.le, Patch.patched}
 use Rattle.image.specs.{Encode.encode, Groups.byte, Groups.flag}
@@ -20,6 +19,7 @@ use Rattle.asbytes.specs.Answer.{enc_accesses, accesses_place, answered}
 use Rattle.asbytes.specs.Machine.{head_of, broken, machine_of, bench_of, counted, summed, stored, saved}
 use Rattle.asbytes.specs.Places as at
 use Rattle.asbytes.specs.Places.{beside, slot_at, count_at, length_at, sum_at}
+use Rattle.bus.specs.Access.{Log}
 
 -- ---- the machine read
 

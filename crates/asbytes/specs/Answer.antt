@@ -1,6 +1,6 @@
 -- What a cycle answers, in bytes: held, edge, how many accesses, and eleven of (write, bank, address, byte).
 use Rattle.std.specs.Prelude.{ℕ, Bool, List, ◌++◌, get_or}
-use Rattle.bus.specs.{Access.no_access, declared.access.Access.Access, declared.access.Log.Log}
+use Rattle.bus.specs.{Access.no_access, declared.access.Access.Access, Access.Log}
 use Rattle.fields.specs.{Little.le, Patch.patched, Table.times}
 use Rattle.image.specs.Groups.{byte, flag}
 

@@ -6,9 +6,10 @@ use mathlib.Core.Path.{◌≡◌, ap, ◌∙◌}
 use lib.Dec.{eqb}
 use lib.ListN.{length}
 use Rattle.bus.proofs.Adds.{read-recorded, write-recorded}
+use Rattle.bus.specs.Access.{Log}
 use Rattle.bus.specs.{Access.no_log, Access.opened, Route.cost_of}
 use Rattle.bus.specs.World.{World, Reading, read_at, write_at}
-use Rattle.bus.specs.declared.{access.Core.Core, access.Log.Log}
+use Rattle.bus.specs.declared.access.Core.{Core}
 use Rattle.entry.specs.Entry.{decode_at}
 use Rattle.entry.specs.declared.Decoded.{Decoded}
 use Rattle.layout.specs.Layout.{capacity}

@@ -3,9 +3,9 @@
 use Rattle.std.specs.Prelude.{ℕ, ◌-◌, Bool, false, List, [], ◌∷◌, eqb, length}
 use Rattle.common.specs.Pick.{pick}
 use Rattle.common.specs.Table.{Entry, at, find}
+use Rattle.bus.specs.Access.{Log}
 use Rattle.bus.specs.{Access.no_log, Access.opened, Route.cost_of}
 use Rattle.bus.specs.World.{World, Reading, read_at, write_at}
-use Rattle.bus.specs.declared.access.Log.{Log}
 use Rattle.entry.specs.Entry.{decode_at}
 use Rattle.entry.specs.declared.Decoded.{Decoded}
 use Rattle.layout.specs.Layout.{capacity}
@@ -13,8 +13,8 @@ use Rattle.machine.specs.Cycle.{Turned, machine_after, cycled}
 use Rattle.machine.specs.{PowerOn.power_on_machine, declared.cycle.Turn.Turn, declared.event.Event.Event}
 use Rattle.machine.specs.declared.event.Event.TheVariants.{Nothing, HBlankStart, NormalLine, VBlankStart, FrameStart}
 use Rattle.state.specs.declared.Machine.{Machine}
+use Rattle.wram.specs.Olds.{Olds}
 use Rattle.wram.specs.{Banks.Banks, Banks.banks, Olds.no_olds, Olds.put_back, Sum.ram_sum, Sum.follows}
-use Rattle.wram.specs.declared.Olds.{Olds}
 use Rattle.bench.specs.Host.{with_io, pad_set, plug_set, answer_set}
 use Rattle.ring.specs.Refusal.{lent_number, cycle_number, port_number, address_number, back_number, fresh_number}
 use Rattle.ring.specs.Slots.{before, bench, Noted, noting, noted}

@@ -7,11 +7,11 @@ use Rattle.wram.specs.Banks.{Banks, banks, peeked}
 use Rattle.wram.specs.Olds.{no_old, no_olds, put_back, back_from}
 use Rattle.wram.proofs.KeepLaws.{GrowsOlds, keep_grows}
 use Rattle.wram.proofs.Undo.{kept_back, poked-low, poked-high}
-use Rattle.bus.specs.Access.{no_access, push_access, opened, io_written, register_read}
+use Rattle.bus.specs.Access.{Log, no_access, push_access, opened, io_written, register_read}
 use Rattle.bus.specs.Route.{route_of}
 use Rattle.bus.specs.View.{with_io, with_channel, with_mdmaen, with_core}
 use Rattle.bus.specs.World.{World, world, place_at, read_io_at, read_at, write_at}
-use Rattle.bus.specs.declared.{access.Access.Access, access.Log.Log, route.Route.Route}
+use Rattle.bus.specs.declared.{access.Access.Access, route.Route.Route}
 use Rattle.bus.specs.declared.route.Route.TheVariants.{Bank7E, Bank7F, Data, Registers, Cartridge}
 
 -- how many accesses, and how many bytes overwritten

@@ -1,5 +1,5 @@
 -- An access keeps registers, bytes overwritten and banks in their widths, and reads a byte.
-use Rattle.std.proofs.Common.{ℕ, ◌%◌, ltb, List, length, ◌∙◌, arith, length-set}
+use Rattle.std.proofs.Common.{Some, ℕ, ◌%◌, ltb, List, length, ◌∙◌, arith, length-set}
 use Rattle.common.specs.All.{AllOf}
 use Rattle.common.proofs.AllLaws.{all_set, all_get_or, byte_fits}
 use Rattle.common.proofs.TableLaws.{pick_elim}
@@ -33,7 +33,7 @@ pub record FitReading (r : Reading) : Type 0 where
   pub world : FitWorld r.world
   pub byte : Byte r.byte
 
-wm-fits : (b : WmAddBank) {a : ℕ} → Word a → FitPlace (wm_place b a)
+wm-fits : (b : WmAddBank) {a : ℕ} → Word a → FitPlace (Some (wm_place b a))
 wm-fits wm.Bank7E h = h
 wm-fits wm.Bank7F h = h
 

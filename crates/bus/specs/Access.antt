@@ -1,12 +1,16 @@
 -- What an access does to the registers, and the log of accesses (document 01: 0 to 11 of them, in order, unused places zero).
-use Rattle.std.specs.Prelude.{ℕ, zero, suc, min, false, List, [], ◌∷◌, ◌++◌, replicate, slice_index_or}
-use Rattle.common.specs.Fill.{one_more, stored_in}
+use Rattle.std.specs.Prelude.{ℕ, zero, suc, min, false, List, [], ◌∷◌, ◌++◌, slice_index_or}
+use Rattle.common.specs.{Fill.none, Fill.pushed, declared.counted.Counted.Counted}
 use Rattle.cartridge.specs.Cartridge.{rom_byte}
 use Rattle.registers.specs.{Groups.with_io-wmadd, Groups.with_io-openbus, Read.read_io, WmAdd.stepped, Write.write_io}
 use Rattle.registers.specs.declared.{Io.Io, read.IoRead.IoRead}
 use Rattle.wram.specs.Olds.{no_olds}
-use Rattle.bus.specs.declared.{access.Access.Access, access.Core.Core, access.Log.Log, route.Route.Route}
+use Rattle.bus.specs.declared.{access.Access.Access, access.Core.Core, route.Route.Route}
 use Rattle.bus.specs.declared.route.Route.TheVariants.{Bank7E, Bank7F, Data, Registers, Cartridge}
+
+-- the accesses of an operation, with their count: antt has no name for the code's alias
+abbrev pub Log : Type 0
+Log = Counted Access 11
 
 -- an unused place
 abbrev pub no_access : Access
@@ -14,11 +18,11 @@ no_access = record { write = false; bank = 0; addr = 0; byte = 0 }
 
 -- no access yet; unused places are zero
 abbrev pub no_log : Log
-no_log = record { count = 0; items = replicate 11 no_access }
+no_log = none 11 no_access
 
 -- one more: the count steps, and the first eleven are stored
 unfoldable pub push_access : Log → Access → Log
-push_access log a = record { count = one_more log.count; items = stored_in 11 log.count log.items a }
+push_access log a = pushed 11 log a
 
 -- the first n places of a log
 unfoldable pub firsts : ℕ → List Access → List Access

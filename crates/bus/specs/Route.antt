@@ -1,5 +1,5 @@
 -- Where an address leads and what it costs (bus/src/bus.rs; Fullsnes, "Memory map"; document 01, "Speeds").
-use Rattle.std.specs.Prelude.{ℕ, Bool, true, false, ◌==◌, nat_lt}
+use Rattle.std.specs.Prelude.{ℕ, Bool, true, false, Option, None, Some, ◌==◌, nat_lt}
 use Rattle.common.specs.{Pick.pick, Range.within}
 use Rattle.cartridge.specs.Cartridge.{rom_cost}
 use Rattle.registers.specs.{WmAdd.stepped, declared.wm_address.WmAddBank.WmAddBank, declared.wm_address.WmAddress.WmAddress}
@@ -39,12 +39,12 @@ wm_place wm.Bank7E a = at.Bank7E a
 wm_place wm.Bank7F a = at.Bank7F a
 
 -- the byte of work RAM that an access reaches: by its address, or through $2180 by WMADD
-unfoldable pub place_of : WmAddress → Route → ℕ → Place
-place_of w Bank7E a = at.Bank7E a
-place_of w Bank7F a = at.Bank7F a
-place_of w Data a = wm_place w.bank w.addr
-place_of w Registers a = at.Nowhere
-place_of w Cartridge a = at.Nowhere
+unfoldable pub place_of : WmAddress → Route → ℕ → Option Place
+place_of w Bank7E a = Some (at.Bank7E a)
+place_of w Bank7F a = Some (at.Bank7F a)
+place_of w Data a = Some (wm_place w.bank w.addr)
+place_of w Registers a = None
+place_of w Cartridge a = None
 
 -- $4000-$41FF 12, the other registers 6
 abbrev pub zone_cost : ℕ → ℕ

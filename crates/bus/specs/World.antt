@@ -1,11 +1,11 @@
 -- The registers, the log, the bytes overwritten and both banks: what one access does to them all (bus/src/bus.rs, read and write).
-use Rattle.std.specs.Prelude.{ℕ, true, false, List}
+use Rattle.std.specs.Prelude.{ℕ, true, false, List, Option}
 use Rattle.registers.specs.declared.{Io.Io, read.IoRead.IoRead}
 use Rattle.wram.specs.Banks.{Banks, banks, peeked, poked}
-use Rattle.wram.specs.{Olds.kept_at, declared.Olds.Olds, declared.Place.Place}
-use Rattle.bus.specs.Access.{push_access, io_written, register_read}
+use Rattle.wram.specs.{Olds.kept_at, Olds.Olds, declared.Place.Place}
+use Rattle.bus.specs.Access.{Log, push_access, io_written, register_read}
 use Rattle.bus.specs.Route.{route_of, place_of}
-use Rattle.bus.specs.declared.{access.BusRead.BusRead, access.Core.Core, access.Log.Log}
+use Rattle.bus.specs.declared.{access.BusRead.BusRead, access.Core.Core}
 
 -- what stands on the bus: registers, log and bytes overwritten, and both banks
 pub record World : Type 0 where
@@ -30,7 +30,7 @@ abbrev pub core : Io → Log → Olds → Core
 core io log olds = record { io = io; log = log; olds = olds }
 
 -- the place in work RAM of an access
-abbrev pub place_at : World → ℕ → ℕ → Place
+abbrev pub place_at : World → ℕ → ℕ → Option Place
 place_at w b a = place_of w.core.io.wmadd (route_of b a) a
 
 -- the registers after a read, and the byte

@@ -1,9 +1,10 @@
 // Reads and writes on the bus. Each is logged, and each byte of work RAM that a write replaces is kept.
 ghost use Rattle.std.specs.Prelude.{◌≡◌};
-ghost use Rattle.bus.specs.Access.{no_log, push_access, opened, data_stepped, io_written, register_read};
+ghost use Rattle.bus.specs.Access.{no_log, opened, data_stepped, io_written, register_read};
 ghost use Rattle.bus.specs.World.{world, reading, read_at, write_at};
 
 use crate::route::{Route, place_of, route_of};
+use common::counted::Counted;
 use registers::Io;
 use registers::read::IoRead;
 use registers::wm_address::inc;
@@ -18,11 +19,8 @@ pub struct Access {
     pub byte: u8,
 }
 
-#[derive(Clone, Copy)]
-pub struct Log {
-    pub count: u8,
-    pub items: [Access; 11],
-}
+// The accesses of an operation, in order.
+pub type Log = Counted<Access, 11>;
 
 // The registers with what this operation did on the bus.
 #[derive(Clone, Copy)]
@@ -38,46 +36,26 @@ pub struct BusRead {
     pub byte: u8,
 }
 
-// The count always steps, so a count of at most eleven says that no access was lost.
-fn push_access(log: Log, a: Access) -> Log
-    ensures { result ≡ push_access log a }
-{
-    let n = log.count;
-    let next = std::num::wrapping_add_u8(n, 1);
-    let mut out = log;
-    out.count = next;
-    if n < 11 {
-        let i = n as usize;
-        out.items[i] = a;
-        return out;
-    }
-    out
-}
-
 pub fn no_log() -> Log
     ensures { result ≡ no_log }
 {
-    Log {
-        count: 0,
-        items: [Access {
-            write: false,
-            bank: 0,
-            addr: 0,
-            byte: 0,
-        }; 11],
-    }
+    Log::none(Access {
+        write: false,
+        bank: 0,
+        addr: 0,
+        byte: 0,
+    })
 }
 
 // The registers with nothing done on the bus yet.
+#[tactic(auto, unfolding(crate::specs::Access::opened))]
 pub fn opened_core(io: Io) -> Core
     ensures { result ≡ opened io }
 {
-    let log = no_log();
-    let olds = wram::no_olds();
     Core {
-        io: io,
-        log: log,
-        olds: olds,
+        io,
+        log: no_log(),
+        olds: wram::no_olds(),
     }
 }
 
@@ -85,103 +63,79 @@ pub fn opened_core(io: Io) -> Core
 fn step_data(io: Io, byte: u8) -> Io
     ensures { result ≡ data_stepped io byte }
 {
-    let mut o = io;
-    let w = io.wmadd;
-    let next = inc(w);
-    o.wmadd = next;
-    o.openbus = byte;
-    o
+    Io {
+        wmadd: inc(io.wmadd),
+        openbus: byte,
+        ..io
+    }
 }
 
 // What a write does to the registers.
+#[tactic(auto, unfolding(crate::specs::Access::io_written))]
 fn write_io(io: Io, way: Route, addr: u16, byte: u8) -> Io
     ensures { result ≡ io_written io way addr byte }
 {
     match way {
-        Route::Bank7E => io,
-        Route::Bank7F => io,
+        Route::Bank7E | Route::Bank7F | Route::Cartridge => io,
         Route::Data => step_data(io, byte),
         Route::Registers => registers::write::write(io, addr, byte),
-        Route::Cartridge => io,
     }
 }
 
 // What a read gives and does to the registers; `byte` is what work RAM holds at the place, if it has one.
+#[tactic(auto, unfolding(crate::specs::Access::register_read))]
 fn read_io(io: Io, rom: &[u8], way: Route, bank: u8, addr: u16, byte: u8) -> IoRead
     ensures { result ≡ register_read rom.now io way bank addr byte }
 {
     match way {
-        Route::Bank7E => IoRead { io: io, byte: byte },
-        Route::Bank7F => IoRead { io: io, byte: byte },
-        Route::Data => {
-            let o = step_data(io, byte);
-            IoRead { io: o, byte: byte }
-        }
+        Route::Bank7E | Route::Bank7F => IoRead { io, byte },
+        Route::Data => IoRead {
+            io: step_data(io, byte),
+            byte,
+        },
         Route::Registers => registers::read::read(io, addr),
-        Route::Cartridge => {
-            let b = cartridge::read(rom, bank, addr, io.openbus);
-            IoRead { io: io, byte: b }
-        }
+        Route::Cartridge => IoRead {
+            io,
+            byte: cartridge::read(rom, bank, addr, io.openbus),
+        },
     }
 }
 
 pub fn read(core: Core, low: &[u8], high: &[u8], rom: &[u8], bank: u8, addr: u16) -> BusRead
     ensures { reading result low.now high.now ≡ read_at rom.now (world core low.now high.now) bank addr }
 {
-    let io = core.io;
-    let log = core.log;
-    let olds = core.olds;
-    let wmadd = io.wmadd;
     let way = route_of(bank, addr);
-    let place = place_of(wmadd, way, addr);
+    let place = place_of(core.io.wmadd, way, addr);
     let held = wram::peek(low, high, place);
-    let got = read_io(io, rom, way, bank, addr, held);
-    let byte = got.byte;
-    let io2 = got.io;
-    let log2 = push_access(
-        log,
-        Access {
-            write: false,
-            bank: bank,
-            addr: addr,
-            byte: byte,
-        },
-    );
-    let out = Core {
-        io: io2,
-        log: log2,
-        olds: olds,
-    };
+    let IoRead { io, byte } = read_io(core.io, rom, way, bank, addr, held);
+    let log = core.log.push(Access {
+        write: false,
+        bank,
+        addr,
+        byte,
+    });
     BusRead {
-        core: out,
-        byte: byte,
+        core: Core { io, log, ..core },
+        byte,
     }
 }
 
 pub fn write(core: Core, low: &mut [u8], high: &mut [u8], bank: u8, addr: u16, byte: u8) -> Core
     ensures { world result low.new high.new ≡ write_at (world core low.old high.old) bank addr byte }
 {
-    let io = core.io;
-    let log = core.log;
-    let olds = core.olds;
-    let wmadd = io.wmadd;
     let way = route_of(bank, addr);
-    let place = place_of(wmadd, way, addr);
-    let olds2 = wram::keep_old(olds, low, high, place);
+    let place = place_of(core.io.wmadd, way, addr);
+    let olds = wram::keep_old(core.olds, low, high, place);
     wram::poke(low, high, place, byte);
-    let io2 = write_io(io, way, addr, byte);
-    let log2 = push_access(
-        log,
-        Access {
-            write: true,
-            bank: bank,
-            addr: addr,
-            byte: byte,
-        },
-    );
+    let log = core.log.push(Access {
+        write: true,
+        bank,
+        addr,
+        byte,
+    });
     Core {
-        io: io2,
-        log: log2,
-        olds: olds2,
+        io: write_io(core.io, way, addr, byte),
+        log,
+        olds,
     }
 }

@@ -40,21 +40,18 @@ pub fn route_of(bank: u8, addr: u16) -> Route
 }
 
 // The byte of work RAM behind a route: by the address, or by WMADD.
-pub fn place_of(wmadd: WmAddress, route: Route, addr: u16) -> Place
+#[tactic(auto, unfolding(crate::specs::Route::place_of))]
+pub fn place_of(wmadd: WmAddress, route: Route, addr: u16) -> Option<Place>
     ensures { result ≡ place_of wmadd route addr }
 {
     match route {
-        Route::Bank7E => Place::Bank7E(addr),
-        Route::Bank7F => Place::Bank7F(addr),
-        Route::Data => {
-            let bank = wmadd.bank;
-            match bank {
-                WmAddBank::Bank7E => Place::Bank7E(wmadd.addr),
-                WmAddBank::Bank7F => Place::Bank7F(wmadd.addr),
-            }
-        }
-        Route::Registers => Place::Nowhere,
-        Route::Cartridge => Place::Nowhere,
+        Route::Bank7E => Some(Place::Bank7E(addr)),
+        Route::Bank7F => Some(Place::Bank7F(addr)),
+        Route::Data => Some(match wmadd.bank {
+            WmAddBank::Bank7E => Place::Bank7E(wmadd.addr),
+            WmAddBank::Bank7F => Place::Bank7F(wmadd.addr),
+        }),
+        Route::Registers | Route::Cartridge => None,
     }
 }
 
@@ -63,10 +60,7 @@ pub fn leads_to_memory(way: Route) -> bool
     ensures { result ≡ memory way }
 {
     match way {
-        Route::Bank7E => true,
-        Route::Bank7F => true,
-        Route::Data => false,
-        Route::Registers => false,
-        Route::Cartridge => true,
+        Route::Bank7E | Route::Bank7F | Route::Cartridge => true,
+        Route::Data | Route::Registers => false,
     }
 }

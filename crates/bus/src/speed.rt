@@ -14,15 +14,13 @@ fn zone_cost(addr: u16) -> u8
     }
 }
 
+#[tactic(auto, unfolding(crate::specs::Route::cost_of))]
 pub fn cost(memsel: u8, bank: u8, addr: u16) -> u8
     ensures { result ≡ cost_of memsel bank addr }
 {
-    let way = route_of(bank, addr);
-    match way {
-        Route::Bank7E => 8,
-        Route::Bank7F => 8,
-        Route::Data => zone_cost(addr),
-        Route::Registers => zone_cost(addr),
+    match route_of(bank, addr) {
+        Route::Bank7E | Route::Bank7F => 8,
+        Route::Data | Route::Registers => zone_cost(addr),
         Route::Cartridge => cartridge::cost(memsel, bank, addr),
     }
 }

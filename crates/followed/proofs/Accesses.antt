@@ -1,4 +1,5 @@
 -- Each access takes WMADD and work RAM where a listing of it takes them; nothing else that a transfer does touches them.
+use Rattle.std.proofs.Common.{None}
 use Prim.Native.Nat.{ℕ, suc, ◌+◌, ◌≤◌, ◌<◌}
 use mathlib.Core.List.{List}
 use mathlib.Core.Logic.{◌≢◌}
@@ -15,7 +16,6 @@ use Rattle.bus.specs.declared.route.Route.TheVariants.{Bank7E, Bank7F, Data, Reg
 use Rattle.registers.specs.declared.{Io.Io, channel.DmaChannel.DmaChannel, wm_address.WmAddress.WmAddress}
 use Rattle.touch.proofs.Wmadd.{as_read, as_write, read-wmadd, write-wmadd}
 use Rattle.wram.specs.Banks.{Banks, peeked}
-use Rattle.wram.specs.declared.Place.TheVariants.{Nowhere}
 use Rattle.followed.specs.Standing.{ram_by, Told, Stands}
 use Rattle.followed.proofs.Replay.{items, one}
 
@@ -67,7 +67,7 @@ unfolding write_at
 write-ram w b a v = refl
 
 -- a byte of work RAM is read as it is
-byte-by : (rom : List ℕ) (io : Io) (way : Route) (w : WmAddress) (b a v : ℕ) → place_of w way a ≢ Nowhere → (register_read rom io way b a v).byte ≡ v
+byte-by : (rom : List ℕ) (io : Io) (way : Route) (w : WmAddress) (b a v : ℕ) → place_of w way a ≢ None → (register_read rom io way b a v).byte ≡ v
 unfolding register_read place_of
 byte-by rom io Bank7E w b a v h = refl
 byte-by rom io Bank7F w b a v h = refl

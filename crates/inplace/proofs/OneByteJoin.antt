@@ -19,7 +19,7 @@ use Rattle.transfer.specs.{Bits.flag_of, Bits.down, Byte.moved_log, Byte.next_a1
 use Rattle.transfer.specs.declared.byte.Trip.{Trip}
 use Rattle.way.specs.Seen.{clock_at, nmi_at, busy_at, base_at, unit_at, dmap_at, a1t_at, das_at, bside_at, trip_in}
 use Rattle.wram.specs.Banks.{banks, peeked, poked}
-use Rattle.wram.specs.{Olds.no_olds, Olds.kept_at, Sum.follows, declared.Olds.Olds, declared.Place.Place}
+use Rattle.wram.specs.{Olds.no_olds, Olds.kept_at, Sum.follows, Olds.Olds, declared.Place.Place}
 use Rattle.inplace.specs.OneByte.{wmadd_bytes, place_for, byte_by, byte_from, wmadd_next, written_next, after_move, carried}
 use Rattle.inplace.specs.Rest.{at, counting}
 
@@ -27,7 +27,7 @@ use Rattle.inplace.specs.Rest.{at, counting}
 pub in_image : (e : List ℕ) {base : ℕ} → base ≡ base_at e → base + 12 ≤ image_size
 in_image e h = omega (arith, h)
 
-pub byte_from-by : (e rom l h : List ℕ) (b a : ℕ) {place : Place} {held r : ℕ} {way told : Route} → place ≡ place_for e b a
+pub byte_from-by : (e rom l h : List ℕ) (b a : ℕ) {place : Option Place} {held r : ℕ} {way told : Route} → place ≡ place_for e b a
     → held ≡ peeked (banks l h) place → way ≡ route_of b a → way ≡ told → r ≡ byte_by e rom told b a held → r ≡ byte_from e rom l h b a
 unfolding byte_from
 byte_from-by e rom l h b a p q w t r =
@@ -106,7 +106,7 @@ moved-long s v =
 record Looked : Type 0 where
   trip : Trip
   byte : ℕ
-  place : Place
+  place : Option Place
   nmi : Bool
   was : ℕ
 
@@ -131,7 +131,7 @@ module _ (rom l h : List ℕ) where
       go true = refl
       go false = refl
 
-  module _ (s : List ℕ) {e : List ℕ} {t : Trip} {v was : ℕ} {place : Place} {nmi : Bool} (he : e ≡ head_in s) (ht : t ≡ trip_in e)
+  module _ (s : List ℕ) {e : List ℕ} {t : Trip} {v was : ℕ} {place : Option Place} {nmi : Bool} (he : e ≡ head_in s) (ht : t ≡ trip_in e)
       (hv : v ≡ byte_from e rom l h t.source.bank t.source.addr) (hp : place ≡ place_for e t.target.bank t.target.addr)
       (hm : nmi ≡ nmi_at e) (hw : was ≡ num e the.nmi) where
     read_so : record { trip = t; byte = v; place = place; nmi = nmi; was = was } ≡ looked (head_of s)

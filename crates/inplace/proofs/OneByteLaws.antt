@@ -41,9 +41,8 @@ use Rattle.way.specs.Way.{trip_tests, way_of}
 use Rattle.way.proofs.Call.{bench_in, call-is, moves as goesMoving}
 use Rattle.way.proofs.Ready.{Ready, machine_in, channel_in, channel-is, Due, due, bytes-are, idle, one, two, runs}
 use Rattle.wram.specs.Banks.{banks, peeked, poked}
-use Rattle.wram.specs.Olds.{no_olds, kept_at}
+use Rattle.wram.specs.Olds.{Olds, no_olds, kept_at}
 use Rattle.wram.specs.Sum.{follows}
-use Rattle.wram.specs.declared.Olds.{Olds}
 use Rattle.inplace.proofs.OneByteJoin.{written-long}
 use Rattle.inplace.specs.OneByte.{wmadd_bytes, port_byte, place_for, byte_by, byte_from, wmadd_next, written_next, after_move, carried}
 use Rattle.inplace.specs.Rest.{at, counting, edge_at}

@@ -27,8 +27,8 @@ use Rattle.way.specs.Way.{waiting, way_of}
 use Rattle.way.proofs.Call.{bench_in, call-is, waits}
 use Rattle.way.proofs.Ready.{Ready, machine_in, seen_same, bytes-are, idle, one, two, runs, rests}
 use Rattle.wram.proofs.SumLaws.{follow-none}
+use Rattle.wram.specs.Olds.{Olds}
 use Rattle.wram.specs.{Banks.Banks, Banks.banks, Olds.no_olds, Sum.follows}
-use Rattle.wram.specs.declared.Olds.{Olds}
 use Rattle.inplace.specs.Rest.{at, ticking, counting, edge_at, rested}
 
 -- ---- bytes laid over the head of a list

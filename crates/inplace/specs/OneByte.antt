@@ -1,5 +1,5 @@
 -- One byte of a general transfer between memory and a port of the B bus, said of the machine's bytes.
-use Rattle.std.specs.Prelude.{ℕ, ◌+◌, ◌-◌, ◌%◌, ◌^◌, true, not, ◌&&◌, List, ◌++◌, nat_le, nat_lt, slice_set}
+use Rattle.std.specs.Prelude.{ℕ, ◌+◌, ◌-◌, ◌%◌, ◌^◌, true, not, ◌&&◌, List, Option, ◌++◌, nat_le, nat_lt, slice_set}
 use Rattle.common.specs.{Pick.pick, Range.within}
 use Rattle.asbytes.specs.{Answer.answered, Crossed.Crossed, Crossed.crossed, Machine.head_of, Machine.summed}
 use Rattle.asbytes.specs.Places.{slot_at, count_at, length_at, sum_at}
@@ -35,7 +35,7 @@ module _ (e : List ℕ) where
       (pick (within 0x2140 0x2180 a) (num e (the.apu (a % 4))) (num e the.openbus))
 
   -- the byte of work RAM behind an address
-  unfoldable pub place_for : ℕ → ℕ → Place
+  unfoldable pub place_for : ℕ → ℕ → Option Place
   place_for b a = place_of (wmadd_at e) (route_of b a) a
 
   -- the byte that a read gives, by its route; v is work RAM's

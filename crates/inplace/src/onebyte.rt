@@ -58,7 +58,7 @@ fn port_at(e: &[u8], addr: u16) -> u8
 }
 
 // The byte of work RAM behind an address, if it has one.
-fn place_at(e: &[u8], bank: u8, addr: u16) -> Place
+fn place_at(e: &[u8], bank: u8, addr: u16) -> Option<Place>
     ensures { result ≡ place_for e.now bank addr }
 {
     let wmadd = wmadd_in(e);

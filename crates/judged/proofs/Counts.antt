@@ -11,8 +11,7 @@ use Rattle.ring.specs.Slots.{after, before, noted}
 use Rattle.bench.specs.declared.operate.{Answer.Answer, CycleAnswer.CycleAnswer, ReadAnswer.ReadAnswer}
 use Rattle.ring.specs.declared.Bench.{Bench}
 use Rattle.bench.specs.declared.operate.WriteAnswer.{WriteAnswer}
-use Rattle.bus.specs.Access.{no_access}
-use Rattle.bus.specs.declared.access.Log.{Log}
+use Rattle.bus.specs.Access.{Log, no_access}
 use Rattle.common.proofs.FillLaws.{Filled}
 use Rattle.entry.specs.Entry.{decode_at}
 use Rattle.bench.proofs.Accepted.{cycle-accepted, read-accepted, write-accepted, pad-accepted, plug-accepted, answer-accepted, back-accepted}
@@ -20,7 +19,7 @@ use Rattle.layout.specs.Layout.{capacity}
 use Rattle.machine.proofs.Adds.{cycle-recorded}
 use Rattle.machine.specs.Cycle.{Turned, cycled}
 use Rattle.state.specs.declared.Machine.{Machine}
-use Rattle.wram.specs.declared.Olds.{Olds}
+use Rattle.wram.specs.Olds.{Olds}
 
 -- the counts beside the machine after one more entry
 pub record Counted (d : Desk) (b : Bench) : Type 0 where

@@ -23,8 +23,8 @@ use Rattle.state.specs.Fit.{FitMachine}
 use Rattle.state.specs.declared.Machine.{Machine}
 use Rattle.wram.proofs.{FitLaws.no_olds-ok, KeepLaws.keep_grows, Ranges.OldsOk}
 use Rattle.wram.specs.{Banks.banks, Sum.follows}
-use Rattle.wram.specs.Olds.{no_olds, push_old, kept_at}
-use Rattle.wram.specs.declared.{Old.Old, Olds.Olds, Place.TheVariants.Bank7E}
+use Rattle.wram.specs.Olds.{Olds, no_olds, push_old, kept_at}
+use Rattle.wram.specs.declared.{Old.Old, Place.TheVariants.Bank7E}
 
 module _ (d : Desk) (olds : Olds) (f : FitMachine d.bench.machine) (p : machine_ok d.bench.machine ≡ true) (g : OldsOk olds)
     (s : d.bench.slot < capacity (length d.entries)) where
@@ -53,7 +53,7 @@ module _ (l h e : List ℕ) (s : Sizes l h e) where
 
     old_ok : OldsOk (push_old no_olds old)
     unfolding push_old kept_at
-    old_ok = record { filled = filled_grows (filled_none 4) (keep_grows no_olds (banks l h) (Bank7E 0)) (omega arith); fits = omega arith }
+    old_ok = record { filled = filled_grows (filled_none 4) (keep_grows no_olds (banks l h) (Some (Bank7E 0))) (omega arith); fits = omega arith }
 
     pub at_7e : (byte : ℕ) → (write_at (world_of (start l h e)) 0x7E 0 byte).core.olds ≡ push_old no_olds old
     unfolding write_at opened kept_at route_of place_of

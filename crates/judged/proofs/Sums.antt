@@ -125,7 +125,7 @@ module _ (l h e : List ℕ) (s : Sizes l h e) (fl : Bytes l) (fh : Bytes h) (byt
   small : get_or l 0 0 < 256
   small = byte_fits l 0 fl
 
-  put : is ≡ poked was (Bank7E 0) byte
+  put : is ≡ poked was (Some (Bank7E 0)) byte
   unfolding write_at route_of place_of
   put = ap (λ (o : WriteOut). o.desk.ram) (k ∙ start-write l h e s 0x7E 0 byte)
 
@@ -134,8 +134,8 @@ module _ (l h e : List ℕ) (s : Sizes l h e) (fl : Bytes l) (fh : Bytes h) (byt
   moved =
       let n = (ram_sum was + byte + (2 ^ 32 - get_or l 0 0)) % 2 ^ 32 in
       let by : (n + get_or l 0 0) % 2 ^ 32 ≡ (ram_sum was + byte) % 2 ^ 32 = omega (arith, small, fits, sum_below was) in
-      let here : ◌≡◌ {A = Bool} true (inside was (Bank7E 0)) = sym (lt-ltb 0 (length l) (omega (arith, s.low))) in
-      let sum : n ≡ ram_sum is = follow-put (ram_sum was) was (Bank7E 0) byte here refl refl by (omega arith) ∙ ap (follows (ram_sum was) was) (sym put) ∙ follow-true was is in
+      let here : ◌≡◌ {A = Bool} true (inside was (Some (Bank7E 0))) = sym (lt-ltb 0 (length l) (omega (arith, s.low))) in
+      let sum : n ≡ ram_sum is = follow-put (ram_sum was) was (Some (Bank7E 0)) byte here refl refl by (omega arith) ∙ ap (follows (ram_sum was) was) (sym put) ∙ follow-true was is in
       moved_by (get_or l 0 0) byte (ram_sum was) (ram_sum is) small fits (sum_below was) (sum_below is) (ap (λ (x : ℕ). (x + get_or l 0 0) % 2 ^ 32) (sym sum) ∙ by)
 
   written-sum : r.bench.sum ≡ ram_sum is

@@ -6,7 +6,8 @@ use mathlib.Core.Path.{◌≡◌, sym, ◌∙◌}
 use lib.Dec.{eqb, ltb}
 use Rattle.append.specs.{Number.decimal, Number.padded, Sheet.Sheet, Sheet.puts, Texts.codes}
 use Rattle.append.proofs.Laws.{then, puts_none}
-use Rattle.bus.specs.declared.{access.Access.Access, access.Log.Log}
+use Rattle.bus.specs.Access.{Log}
+use Rattle.bus.specs.declared.access.Access.{Access}
 use Rattle.state.specs.declared.Machine.{Machine}
 use Rattle.touch.specs.{Who.who_of, Who.starts_at_zero, declared.reach.Reach.Reach, declared.who.Who.Who}
 use Rattle.wording.specs.Words.{words_of}

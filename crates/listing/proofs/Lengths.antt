@@ -7,7 +7,7 @@ use lib.Dec.{eqb, ltb}
 use lib.ListN.{length, get_or, length-append}
 use Rattle.common.proofs.{AllLaws.◌also◌, TableLaws.pick_elim, TableLaws.find_elim}
 use Rattle.append.proofs.Decimal.{most, most-padded}
-use Rattle.bus.specs.{Access.no_access, declared.access.Access.Access, declared.access.Log.Log}
+use Rattle.bus.specs.{Access.no_access, declared.access.Access.Access, Access.Log}
 use Rattle.registers.specs.declared.wm_address.WmAddress.{WmAddress}
 use Rattle.state.specs.declared.Machine.{Machine}
 use Rattle.touch.specs.{Reach.reach_of, Who.who_of, Who.starts_at_zero}

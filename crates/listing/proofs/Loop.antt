@@ -8,7 +8,7 @@ use native.Mathlib.Omega.{arith}
 use lib.ListN.{get_or}
 use Rattle.append.specs.Sheet.{Sheet, puts}
 use Rattle.append.proofs.Laws.{first, puts_none}
-use Rattle.bus.specs.{Access.no_access, declared.access.Access.Access, declared.access.Log.Log}
+use Rattle.bus.specs.{Access.no_access, declared.access.Access.Access, Access.Log}
 use Rattle.registers.specs.declared.wm_address.WmAddress.{WmAddress}
 use Rattle.touch.specs.{Reach.reach_of, declared.reach.Reach.Reach, declared.who.Who.Who}
 use Rattle.listing.specs.{Line.access_text, Cycle.accesses_from, Cycle.log_text}

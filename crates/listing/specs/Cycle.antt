@@ -2,7 +2,7 @@
 use Rattle.std.specs.Prelude.{ℕ, zero, suc, ◌+◌, min, Bool, false, List, [], ◌++◌, eqb, get_or}
 use Rattle.common.specs.Pick.{pick}
 use Rattle.append.specs.Texts.{codes}
-use Rattle.bus.specs.{Access.no_access, declared.access.Access.Access, declared.access.Log.Log}
+use Rattle.bus.specs.{Access.no_access, declared.access.Access.Access, Access.Log}
 use Rattle.registers.specs.declared.wm_address.WmAddress.{WmAddress}
 use Rattle.state.specs.declared.Machine.{Machine}
 use Rattle.touch.specs.{Reach.reach_of, Who.who_of, Who.starts_at_zero}

@@ -27,8 +27,7 @@ use Rattle.state.proofs.Ranges.{MachineOk}
 use Rattle.state.specs.Fit.{FitMachine}
 use Rattle.state.specs.declared.Machine.{Machine}
 use Rattle.wram.proofs.{FitLaws.no_olds-ok, Ranges.OldsOk}
-use Rattle.wram.specs.Olds.{no_olds, put_back, back_from}
-use Rattle.wram.specs.declared.Olds.{Olds}
+use Rattle.wram.specs.Olds.{Olds, no_olds, put_back, back_from}
 
 pub record Good (s : State) : Type 0 where
   pub fits : FitMachine s.machine

@@ -7,8 +7,8 @@ use Rattle.bus.specs.World.{World, read_at, write_at}
 use Rattle.machine.specs.Cycle.{Turned, machine_after, cycled}
 use Rattle.common.specs.Width.{Byte, Word}
 use Rattle.state.specs.declared.Machine.{Machine}
+use Rattle.wram.specs.Olds.{Olds}
 use Rattle.wram.specs.{Banks.Banks, Olds.no_olds}
-use Rattle.wram.specs.declared.Olds.{Olds}
 
 -- an operation with its arguments
 pub data Op : Type 0 where

@@ -4,8 +4,8 @@ use Rattle.common.specs.Pick.{pick}
 use Rattle.entry.specs.Entry.{written}
 use Rattle.layout.specs.Layout.{capacity}
 use Rattle.state.specs.declared.Machine.{Machine}
-use Rattle.wram.specs.declared.Olds.{Olds}
 use Rattle.ring.specs.declared.Bench.{Bench}
+use Rattle.wram.specs.Olds.{Olds}
 
 -- the slot after a slot, of so many
 abbrev pub after : ℕ → ℕ → ℕ

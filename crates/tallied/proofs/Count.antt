@@ -9,10 +9,10 @@ use lib.ListN.{length, length-set, take}
 use lib.Seq.{take-suc-set}
 use mir.Val.{bool_byte}
 use Rattle.common.proofs.TableLaws.{pick_elim}
-use Rattle.bus.specs.Access.{push_access}
+use Rattle.bus.specs.Access.{Log, push_access}
 use Rattle.bus.specs.View.{channel_of, with_channel}
 use Rattle.bus.specs.World.{World, read_at, write_at}
-use Rattle.bus.specs.declared.{access.Access.Access, access.Core.Core, access.Log.Log}
+use Rattle.bus.specs.declared.{access.Access.Access, access.Core.Core}
 use Rattle.registers.specs.declared.channel.DmaChannel.{DmaChannel}
 use Rattle.transfer.proofs.BitLaws.{unit_len-le}
 use Rattle.transfer.specs.Byte.{moved, step_a1t, trip_at, transfer_byte}

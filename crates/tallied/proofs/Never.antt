@@ -13,8 +13,8 @@ use Rattle.bench.specs.Calls.{Desk, lent_of, CycleOut, cycle_call, ReadOut, read
 use Rattle.benchfile.specs.Row.{row_at}
 use Rattle.benchfile.specs.declared.row.Row.{Row}
 use Rattle.benchfile.specs.declared.row.Row.TheVariants.{Cycles, Read, Write, Pad, Plug, Answer as Reply, Back, Broken}
-use Rattle.bus.specs.Access.{accesses_of}
-use Rattle.bus.specs.declared.access.{Access.Access, Log.Log}
+use Rattle.bus.specs.Access.{Log, accesses_of}
+use Rattle.bus.specs.declared.access.Access.{Access}
 use Rattle.entry.specs.Entry.{decode_at}
 use Rattle.layout.specs.Layout.{capacity}
 use Rattle.ring.specs.Refusal.{banks_off, record_off, rom_off, bench_off, address_off, also_of, lent_number, cycle_number, port_number, address_number, back_number}

@@ -8,8 +8,9 @@ use native.Mathlib.Omega.{arith}
 use lib.ListN.{length, get_or, take}
 use lib.Seq.{take-suc}
 use Rattle.common.proofs.TableLaws.{pick_elim}
+use Rattle.bus.specs.Access.{Log}
 use Rattle.bus.specs.{Access.no_access, Access.no_log, Access.firsts, Access.accesses_of, Access.opened, World.World}
-use Rattle.bus.specs.declared.{access.Access.Access, access.Log.Log}
+use Rattle.bus.specs.declared.access.Access.{Access}
 use Rattle.dma.specs.Pass.{unqueued}
 use Rattle.followed.proofs.{Cycle.updated-follows, Who.begun-log, Who.cycled_credited}
 use Rattle.followed.specs.Credit.{Done, CreditedAt}

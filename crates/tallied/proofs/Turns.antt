@@ -9,8 +9,8 @@ use lib.ListN.{length}
 use lib.Seq.{length-take-le}
 use Rattle.common.proofs.TableLaws.{pick_elim}
 use Rattle.common.specs.Pick.{pick}
+use Rattle.bus.specs.Access.{Log}
 use Rattle.bus.specs.View.{channel_of, with_channel}
-use Rattle.bus.specs.declared.access.Log.{Log}
 use Rattle.hdma.specs.{Engine.DmaWorld, Engine.hdma_at, Line.line_from, Line.line_channel}
 use Rattle.hdma.specs.Entry.{Reloaded, indirect_at, reloaded, rewound, init_channel}
 use Rattle.transfer.proofs.BitLaws.{unit_len-le}

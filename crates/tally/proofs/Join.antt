@@ -11,7 +11,7 @@ use Rattle.start.specs.Start.{Starting, start_run}
 use Rattle.benchfile.specs.contracts.row.Row.{the_type}
 use Rattle.benchfile.specs.declared.row.Row.{Row}
 use Rattle.benchfile.specs.declared.row.Row.TheVariants.{Cycles, Read, Write, Pad, Plug, Answer as Reply, Back, Broken}
-use Rattle.bus.specs.{Access.accesses_of, declared.access.Log.Log}
+use Rattle.bus.specs.{Access.accesses_of, Access.Log}
 use Rattle.state.specs.declared.{Dma.Dma, DmaState.DmaState}
 use Rattle.touch.specs.Who.{who_of}
 use Rattle.touch.specs.declared.who.Who.{Who}

@@ -6,13 +6,13 @@ use Rattle.bench.specs.Calls.{Desk, desk}
 use Rattle.benchfile.specs.Row.{row_at}
 use Rattle.benchfile.specs.declared.row.Row.{Row}
 use Rattle.benchfile.specs.declared.row.Row.TheVariants.{Cycles, Read, Write, Pad, Plug, Answer as Reply, Back, Broken}
-use Rattle.bus.specs.declared.access.Log.{Log}
 use Rattle.state.specs.declared.{Dma.Dma, DmaState.DmaState}
 use Rattle.touch.specs.Who.{who_of}
 use Rattle.walk.specs.Call.{Calling, call_of}
 use Rattle.tally.specs.{Alive.Rows, Alive.rows, Alive.noted}
 use Rattle.tally.specs.Share.{made_by, share_of, Counted, counted, count_call}
 use Rattle.tally.specs.declared.run.Tally.{Tally}
+use Rattle.bus.specs.Access.{Log}
 
 -- what a count has come to: what is lent, the refusal of the last call or 0, the rows begun, which operations survive, and the totals
 pub record Tallying : Type 0 where

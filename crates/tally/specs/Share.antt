@@ -2,7 +2,7 @@
 use Rattle.std.specs.Prelude.{ℕ, ◌+◌, ◌-◌, ◌%◌, ◌^◌, Bool, ◌||◌, List, ◌==◌, slice_index, slice_set}
 use mir.Val.{bool_byte}
 use Rattle.common.specs.Pick.{pick}
-use Rattle.bus.specs.{Access.accesses_of, declared.access.Log.Log}
+use Rattle.bus.specs.{Access.accesses_of, Access.Log}
 use Rattle.state.specs.declared.DmaState.{DmaState}
 use Rattle.touch.specs.declared.who.Who.{Who}
 use Rattle.touch.specs.declared.who.Who.TheVariants.{Cpu, Dma as General, Hdma}

@@ -1,6 +1,6 @@
 -- What an access reaches (bus/src/bus.rs; Fullsnes, "Memory map", "WMADDL/M/H"): a byte of work RAM, by its address or through $2180, and
 -- WMADD after it; and whether a transfer's write falls on the registers of its own channel.
-use Rattle.std.specs.Prelude.{ℕ, ◌+◌, ◌/◌, Bool, false, ◌&&◌, List, [], ◌∷◌, eqb}
+use Rattle.std.specs.Prelude.{ℕ, ◌+◌, ◌/◌, Bool, false, Option, None, Some, ◌&&◌, List, [], ◌∷◌, eqb}
 use Rattle.common.specs.{Pick.pick, Word.with_lo, Word.with_hi}
 use Rattle.common.specs.Table.{Entry, at, find}
 use Rattle.registers.specs.{Groups.with_wm_address_bank, Groups.with_wm_address_addr, WmAdd.bank_from, WmAdd.stepped}
@@ -13,10 +13,10 @@ use Rattle.touch.specs.declared.{who.Who.Who, reach.Reach.Reach}
 use Rattle.touch.specs.declared.who.Who.TheVariants.{Cpu, Dma as General, Hdma}
 
 -- the offset of a byte of work RAM, $7E:0000 first; 131,072 is no byte
-abbrev pub spot_of : Place → ℕ
-spot_of place.Nowhere = 131072
-spot_of (place.Bank7E a) = a
-spot_of (place.Bank7F a) = a + 65536
+abbrev pub spot_of : Option Place → ℕ
+spot_of None = 131072
+spot_of (Some (place.Bank7E a)) = a
+spot_of (Some (place.Bank7F a)) = a + 65536
 
 -- a write to $43n0-$43nF where the registers are
 abbrev pub own_by : ℕ → Route → Access → Bool

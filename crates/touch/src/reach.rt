@@ -17,13 +17,13 @@ pub struct Reach {
     pub after: WmAddress,
 }
 
-fn spot(place: Place) -> u32
+fn spot(place: Option<Place>) -> u32
     ensures { result ≡ spot_of place }
 {
     match place {
-        Place::Nowhere => 131072,
-        Place::Bank7E(addr) => addr as u32,
-        Place::Bank7F(addr) => addr as u32 + 65536,
+        None => 131072,
+        Some(Place::Bank7E(addr)) => addr as u32,
+        Some(Place::Bank7F(addr)) => addr as u32 + 65536,
     }
 }
 

@@ -1,5 +1,4 @@
 pub mod BitLaws
-pub mod Join
 pub mod Sending
 pub mod Adds
 pub mod FitLaws

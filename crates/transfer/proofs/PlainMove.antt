@@ -1,5 +1,5 @@
 -- A byte moved between memory and a port of the B bus: what the bus is left with.
-use Rattle.std.proofs.Common.{◌≡◌, ℕ, ◌%◌, ◌<◌, ◌≤◌, Bool, true, false, not, ◌&&◌, ◌||◌, ltb, leb, List, set, ap, ◌∙◌}
+use Rattle.std.proofs.Common.{Option, ◌≡◌, ℕ, ◌%◌, ◌<◌, ◌≤◌, Bool, true, false, not, ◌&&◌, ◌||◌, ltb, leb, List, set, ap, ◌∙◌}
 use borrow.Author.Tests.{not-true}
 use Rattle.common.specs.Pick.{pick}
 use Rattle.bus.proofs.Ports.{read-memory, write-memory, place-memory, moved_io, read-port, write-port}
@@ -15,7 +15,7 @@ use Rattle.transfer.specs.Byte.{trip_of, moved, moved_log}
 use Rattle.transfer.specs.declared.byte.Trip.{Trip}
 
 -- what a move leaves on the bus
-abbrev pub moved_world : Io → Banks → Trip → Place → ℕ → World
+abbrev pub moved_world : Io → Banks → Trip → Option Place → ℕ → World
 moved_world io ram t place v = record { core = core io (moved_log t v) (kept_at no_olds ram place); ram = poked ram place v }
 
 module _ (rom : List ℕ) (io : Io) (l h : List ℕ) where
@@ -50,7 +50,7 @@ module _ (rom : List ℕ) (io : Io) (l h : List ℕ) (dmap ab aa p : ℕ) (from 
   moves_out q =
       let r = read_of rom io l h ab aa in
       let v = r.byte in
-      let place : Io → Place = λ (x : Io). place_of x.wmadd (route_of 0 p) p in
+      let place : Io → Option Place = λ (x : Io). place_of x.wmadd (route_of 0 p) p in
       (λ i.
       let x = read-memory io rom (route_of ab aa) ab aa (peeked ram (place_of io.wmadd (route_of ab aa) aa)) plain i in
       moved_world (io_written x (route_of 0 p) p v) ram out (place x) v)
@@ -66,7 +66,7 @@ module _ (rom : List ℕ) (io : Io) (l h : List ℕ) (dmap ab aa p : ℕ) (from 
       let r = read_of rom io l h 0 p in
       let v = r.byte in
       let o = with_io-openbus (with_io-wmadd io (next_wm p io.wmadd)) v in
-      let place : Io → Place = λ (x : Io). place_of x.wmadd (route_of ab aa) aa in
+      let place : Io → Option Place = λ (x : Io). place_of x.wmadd (route_of ab aa) aa in
       (λ i.
       let x = read-port p from to rom io (peeked ram (place_of io.wmadd (route_of 0 p) p)) i in
       moved_world (io_written x (route_of ab aa) aa v) ram back (place x) v)

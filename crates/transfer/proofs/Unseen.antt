@@ -4,10 +4,9 @@ use Rattle.std.proofs.Common.{◌≡◌, ℕ, ◌<◌, ◌≤◌, Bool, true, fa
 use Rattle.common.specs.Pick.{pick}
 use Rattle.bus.proofs.Ports.{read-memory, write-memory, read-seen, write-seen}
 use Rattle.bus.proofs.Seen.{seen}
-use Rattle.bus.specs.Access.{no_log, push_access}
+use Rattle.bus.specs.Access.{Log, no_log, push_access}
 use Rattle.bus.specs.Route.{route_of, memory}
 use Rattle.bus.specs.World.{World, read_io_at, read_at, write_at}
-use Rattle.bus.specs.declared.access.Log.{Log}
 use Rattle.registers.specs.declared.Io.{Io}
 use Rattle.transfer.specs.Bits.{flag_of}
 use Rattle.transfer.specs.Byte.{trip_of, moved, moved_log}

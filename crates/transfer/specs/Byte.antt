@@ -1,7 +1,7 @@
 -- One byte moved, and the byte of a general transfer (src/dma.rs, dma_transfer_byte).
 use Rattle.std.specs.Prelude.{ℕ, true, false, List}
 use Rattle.common.specs.Pick.{pick}
-use Rattle.bus.specs.{Access.no_log, Access.push_access, declared.access.Core.Core, declared.access.Log.Log}
+use Rattle.bus.specs.{Access.no_log, Access.push_access, declared.access.Core.Core, Access.Log}
 use Rattle.bus.specs.View.{channel_of, with_channel, with_core}
 use Rattle.bus.specs.World.{World, read_at, write_at}
 use Rattle.registers.specs.Groups.{with_dma_channel_a1t}

@@ -2,11 +2,11 @@
 ghost use Rattle.std.specs.Prelude.{◌≡◌};
 ghost use Rattle.transfer.specs.Pattern.{offset_of, unit_len, b_address};
 
+#[tactic(auto, unfolding(crate::specs::Pattern::offset_of))]
 pub fn offset(dmap: u8, unit: u32) -> u8
     ensures { result ≡ offset_of dmap unit }
 {
-    let mode = dmap % 8;
-    match mode {
+    match dmap % 8 {
         1 | 5 => (unit % 2) as u8,
         3 | 7 => (unit / 2 % 2) as u8,
         4 => (unit % 4) as u8,
@@ -14,15 +14,13 @@ pub fn offset(dmap: u8, unit: u32) -> u8
     }
 }
 
+#[tactic(auto, unfolding(crate::specs::Pattern::unit_len))]
 pub fn unit_len(dmap: u8) -> u8
     ensures { result ≡ unit_len dmap }
 {
-    let mode = dmap % 8;
-    match mode {
+    match dmap % 8 {
         0 => 1,
-        1 => 2,
-        2 => 2,
-        6 => 2,
+        1 | 2 | 6 => 2,
         _ => 4,
     }
 }
@@ -31,5 +29,5 @@ pub fn unit_len(dmap: u8) -> u8
 pub fn b_address(bbad: u8, off: u8) -> u16
     ensures { result ≡ b_address bbad off }
 {
-    0x2100 + (std::num::wrapping_add_u8(bbad, off) as u16)
+    0x2100 + bbad.wrapping_add(off) as u16
 }

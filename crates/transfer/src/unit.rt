@@ -3,7 +3,6 @@ ghost use Rattle.std.specs.Prelude.{◌≡◌};
 ghost use Rattle.bus.specs.World.{world};
 ghost use Rattle.transfer.specs.Unit.{unit_byte, unit_bytes, source_of, source_stored, sending, unit_sent};
 
-use crate::bits::inc16;
 use crate::byte::{move_byte, trip_of};
 use crate::pattern::{b_address, offset, unit_len};
 use bus::access::Core;
@@ -12,6 +11,7 @@ use common::snes_address::SnesAddress;
 use registers::channel::DmaChannel;
 
 // Byte i of a unit, at a given A address.
+#[tactic(auto, unfolding(crate::specs::Unit::unit_byte))]
 fn unit_byte(
     core: Core,
     low: &mut [u8],
@@ -24,13 +24,12 @@ fn unit_byte(
 ) -> Core
     ensures { world result low.new high.new ≡ unit_byte rom.now c bank addr i (world core low.old high.old) }
 {
-    let off = offset(c.dmap, i as u32);
-    let b = b_address(c.bbad, off);
-    let trip = trip_of(c.dmap, bank, addr, b);
-    move_byte(core, low, high, rom, trip)
+    let b = b_address(c.bbad, offset(c.dmap, i as u32));
+    move_byte(core, low, high, rom, trip_of(c.dmap, bank, addr, b))
 }
 
 // The first n bytes of a unit. DMAP and BBAD are those from before the unit.
+#[tactic(auto, unfolding(crate::specs::Unit::unit_bytes))]
 fn send_bytes(
     core: Core,
     low: &mut [u8],
@@ -44,19 +43,15 @@ fn send_bytes(
     ensures { world result low.new high.new ≡ unit_bytes rom.now c bank addr n (world core low.old high.old) }
 {
     let mut k = core;
-    let mut at = addr;
-    let mut i: u8 = 0;
-    while i < n {
-        let next = unit_byte(k, low, high, rom, c, bank, at, i);
-        k = next;
-        let up = inc16(at);
-        at = up;
-        i += 1;
+    for i in 0..n {
+        let at = addr.wrapping_add(i as u16);
+        k = unit_byte(k, low, high, rom, c, bank, at, i);
     }
     k
 }
 
 // Direct channels stream from the table, indirect ones from DASB:DAS.
+#[tactic(auto, unfolding(crate::specs::Unit::source_of))]
 fn source_of(c: DmaChannel, indirect: bool) -> SnesAddress
     ensures { result ≡ source_of c indirect }
 {
@@ -74,15 +69,16 @@ fn source_of(c: DmaChannel, indirect: bool) -> SnesAddress
 }
 
 // The address after the unit goes back where it came from.
+#[tactic(auto, unfolding(crate::specs::Unit::source_stored))]
 fn store_source(core: Core, ch: u8, indirect: bool, addr: u16) -> Core
     ensures { result ≡ source_stored core ch indirect addr }
 {
-    let mut c = channel_of(core, ch);
-    if indirect {
-        c.das = addr;
-        return with_channel(core, ch, c);
-    }
-    c.a2a = addr;
+    let c = channel_of(core, ch);
+    let c = if indirect {
+        DmaChannel { das: addr, ..c }
+    } else {
+        DmaChannel { a2a: addr, ..c }
+    };
     with_channel(core, ch, c)
 }
 
@@ -92,6 +88,7 @@ pub struct Sent {
     pub bytes: u8,
 }
 
+#[tactic(auto, unfolding(crate::specs::Unit::unit_sent))]
 pub fn transfer_unit(
     core: Core,
     low: &mut [u8],
@@ -106,10 +103,9 @@ pub fn transfer_unit(
     let s = source_of(c, indirect);
     let n = unit_len(c.dmap);
     let k = send_bytes(core, low, high, rom, c, s.bank, s.addr, n);
-    let end = std::num::wrapping_add_u16(s.addr, n as u16);
-    let out = store_source(k, ch, indirect, end);
+    let end = s.addr.wrapping_add(n as u16);
     Sent {
-        core: out,
+        core: store_source(k, ch, indirect, end),
         bytes: n,
     }
 }

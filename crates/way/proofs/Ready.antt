@@ -28,8 +28,7 @@ use Rattle.state.specs.Progress.{progress_at}
 use Rattle.state.specs.declared.DmaState.TheVariants as state
 use Rattle.state.specs.declared.Machine.{Machine}
 use Rattle.transfer.specs.{Bits.down, Pattern.offset_of, Pattern.b_address}
-use Rattle.wram.specs.Olds.{no_old, no_olds}
-use Rattle.wram.specs.declared.Olds.{Olds}
+use Rattle.wram.specs.Olds.{Olds, no_old, no_olds}
 use Rattle.way.specs.Seen.{seen, busy_at, unit_at, das_at}
 use Rattle.way.specs.Way.{pressed_tests, calm_tests, waiting, due_tests}
 

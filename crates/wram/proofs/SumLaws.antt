@@ -1,15 +1,16 @@
 -- The sum of the banks: bytes added one after the other; a byte put at a place; old bytes that go back.
-use Rattle.std.proofs.Common.{◌≡◌, ℕ, zero, suc, ◌+◌, ◌-◌, ◌*◌, ◌%◌, ◌^◌, ◌<◌, ◌≤◌, min, Bool, true, false, not, ◌&&◌, eqb, ltb, List, [], ◌∷◌, ◌++◌, length, get_or, take, set, sym, refl, ap, ◌∙◌, true≢false, length-set, take_all, get_or-set_other, take-suc, get_or-set_same, ltb-true, le-ltb, lt-ltb, eq-eqb, eqb-true}
+use Rattle.std.proofs.Common.{Option, None, Some, ◌≡◌, ℕ, zero, suc, ◌+◌, ◌-◌, ◌*◌, ◌%◌, ◌^◌, ◌<◌, ◌≤◌, min, Bool, true, false, not, ◌&&◌, eqb, ltb, List, [], ◌∷◌, ◌++◌, length, get_or, take, set, sym, refl, ap, ◌∙◌, true≢false, length-set, take_all, get_or-set_other, take-suc, get_or-set_same, ltb-true, le-ltb, lt-ltb, eq-eqb, eqb-true}
+use Rattle.std.proofs.lemmas.List.{length-take, get_or-take}
 use mathlib.Core.Bool.{beq, and-eq-true_iff}
 use native.Mathlib.{Decide.dec_lt, Nat.mod-add-mod, Omega.arith}
 use lib.Seq.{set_out}
 use Rattle.common.specs.Pick.{pick}
 use Rattle.wram.specs.Banks.{Banks, peeked, poked}
-use Rattle.wram.specs.Olds.{no_old, old_place, back_from, put_back}
+use Rattle.wram.specs.Olds.{Olds, no_old, old_place, back_from, put_back}
 use Rattle.wram.specs.Change.{same_place, first_there, inside, counts, stands, stood, change_of}
 use Rattle.wram.specs.Sum.{total, ram_sum, follows}
-use Rattle.wram.specs.declared.{Old.Old, Olds.Olds, Place.Place, sum.Change.Change}
-use Rattle.wram.specs.declared.Place.TheVariants.{Nowhere, Bank7E, Bank7F}
+use Rattle.wram.specs.declared.{Old.Old, Place.Place, sum.Change.Change}
+use Rattle.wram.specs.declared.Place.TheVariants.{Bank7E, Bank7F}
 
 -- ---- added up
 
@@ -32,9 +33,6 @@ added_next l sum i a h e =
     let n : i + 1 ≡ suc i = omega arith in
     rw n (omega (arith, h), e ∙ omega (arith, a.1, t))
 
-pub added-all : (l : List ℕ) (sum i : ℕ) → Added l sum i → length l ≤ i → sum ≡ total l % 2 ^ 32
-added-all l sum i a h = a.1 ∙ ap (λ (x : List ℕ). total x % 2 ^ 32) (take_all i l h)
-
 -- ---- a byte put at a place
 
 -- both banks added up
@@ -54,25 +52,25 @@ bank-set l a v = elim (dec_lt a (length l)) [
   | no h ↦ rw (le-ltb a (length l) (omega arith), set_out l a v (omega arith)) refl
 ]
 
-whole-poked : (b : Banks) (p : Place) (v : ℕ) → whole (poked b p v) + pick (inside b p) (peeked b p) 0 ≡ whole b + pick (inside b p) v 0
-whole-poked b Nowhere v = refl
-whole-poked b (Bank7E a) v = omega (arith, bank-set b.low a v)
-whole-poked b (Bank7F a) v = omega (arith, bank-set b.high a v)
+whole-poked : (b : Banks) (p : Option Place) (v : ℕ) → whole (poked b p v) + pick (inside b p) (peeked b p) 0 ≡ whole b + pick (inside b p) v 0
+whole-poked b None v = refl
+whole-poked b (Some (Bank7E a)) v = omega (arith, bank-set b.low a v)
+whole-poked b (Some (Bank7F a)) v = omega (arith, bank-set b.high a v)
 
-inside-poked : (b : Banks) (p q : Place) (v : ℕ) → inside (poked b p v) q ≡ inside b q
-inside-poked b Nowhere q v = refl
-inside-poked b (Bank7E a) Nowhere v = refl
-inside-poked b (Bank7E a) (Bank7E c) v = rw (length-set b.low a v) refl
-inside-poked b (Bank7E a) (Bank7F c) v = refl
-inside-poked b (Bank7F a) Nowhere v = refl
-inside-poked b (Bank7F a) (Bank7E c) v = refl
-inside-poked b (Bank7F a) (Bank7F c) v = rw (length-set b.high a v) refl
+inside-poked : (b : Banks) (p q : Option Place) (v : ℕ) → inside (poked b p v) q ≡ inside b q
+inside-poked b None q v = refl
+inside-poked b (Some (Bank7E a)) None v = refl
+inside-poked b (Some (Bank7E a)) (Some (Bank7E c)) v = rw (length-set b.low a v) refl
+inside-poked b (Some (Bank7E a)) (Some (Bank7F c)) v = refl
+inside-poked b (Some (Bank7F a)) None v = refl
+inside-poked b (Some (Bank7F a)) (Some (Bank7E c)) v = refl
+inside-poked b (Some (Bank7F a)) (Some (Bank7F c)) v = rw (length-set b.high a v) refl
 
 -- read back there
-peeked-same : (b : Banks) (p : Place) (v : ℕ) → inside b p ≡ true → peeked (poked b p v) p ≡ v
-peeked-same b Nowhere v h = absurd (true≢false (sym h))
-peeked-same b (Bank7E a) v h = get_or-set_same b.low a v 0 (ltb-true a (length b.low) h)
-peeked-same b (Bank7F a) v h = get_or-set_same b.high a v 0 (ltb-true a (length b.high) h)
+peeked-same : (b : Banks) (p : Option Place) (v : ℕ) → inside b p ≡ true → peeked (poked b p v) p ≡ v
+peeked-same b None v h = absurd (true≢false (sym h))
+peeked-same b (Some (Bank7E a)) v h = get_or-set_same b.low a v 0 (ltb-true a (length b.low) h)
+peeked-same b (Some (Bank7F a)) v h = get_or-set_same b.high a v 0 (ltb-true a (length b.high) h)
 
 -- ---- places of old bytes
 
@@ -90,8 +88,8 @@ module _ (o p : Old) (e : same_place o p ≡ true) where
   high_same : o.high ≡ p.high
   high_same = beq_same o.high p.high ((and-eq-true_iff (eqb o.addr p.addr) (beq o.high p.high)).0 e).1
 
-  one_place : old_place o ≡ old_place p
-  one_place = λ i. pick (high_same i) (Bank7F (addr_same i)) (Bank7E (addr_same i))
+  one_place : ◌≡◌ {A = Option Place} (Some (old_place o)) (Some (old_place p))
+  one_place = λ i. Some (pick (high_same i) (Bank7F (addr_same i)) (Bank7E (addr_same i)))
 
   -- they are the first of it together, or neither is
   first-same : (n : ℕ) (olds : Olds) → first_there n olds o ≡ first_there n olds p
@@ -104,14 +102,14 @@ module _ (o p : Old) (e : same_place o p ≡ true) where
 -- a byte put at another place
 module _ (o p : Old) (b : Banks) (v : ℕ) where
   pick_other : (h k : Bool) → eqb o.addr p.addr && beq h k ≡ false
-      → peeked (poked b (pick k (Bank7F p.addr) (Bank7E p.addr)) v) (pick h (Bank7F o.addr) (Bank7E o.addr))
-      ≡ peeked b (pick h (Bank7F o.addr) (Bank7E o.addr))
+      → peeked (poked b (Some (pick k (Bank7F p.addr) (Bank7E p.addr))) v) (Some (pick h (Bank7F o.addr) (Bank7E o.addr)))
+      ≡ peeked b (Some (pick h (Bank7F o.addr) (Bank7E o.addr)))
   pick_other true true q = get_or-set_other b.high p.addr o.addr v 0 (λ e. true≢false (rw (eq-eqb o.addr p.addr e) at q))
   pick_other true false q = refl
   pick_other false true q = refl
   pick_other false false q = get_or-set_other b.low p.addr o.addr v 0 (λ e. true≢false (rw (eq-eqb o.addr p.addr e) at q))
 
-  other_place : same_place o p ≡ false → peeked (poked b (old_place p) v) (old_place o) ≡ peeked b (old_place o)
+  other_place : same_place o p ≡ false → peeked (poked b (Some (old_place p)) v) (Some (old_place o)) ≡ peeked b (Some (old_place o))
   other_place e = pick_other o.high p.high e
 
 -- ---- old bytes that go back
@@ -137,12 +135,12 @@ module _ (olds : Olds) where
 
   -- what stands at the place of old byte n, where it counts
   abbrev term : ℕ → Banks → ℕ
-  term n b = pick (counts n olds b) (peeked b (old_place (old n))) 0
+  term n b = pick (counts n olds b) (peeked b (Some (old_place (old n)))) 0
 
   -- a byte v put at the place of x
   module _ (b : Banks) (x : Old) (v : ℕ) where
-    abbrev p : Place
-    p = old_place x
+    abbrev p : Option Place
+    p = Some (old_place x)
 
     abbrev b' : Banks
     b' = poked b p v
@@ -163,7 +161,7 @@ module _ (olds : Olds) where
     other_step : (n : ℕ) → same_place (old n) x ≡ false → Moves n (first_there n olds x) → Moves (suc n) (first_there n olds x && true)
     unfolding stands
     other_step n e h =
-        let q = old_place (old n) in
+        let q = Some (old_place (old n)) in
         let after : term n b' ≡ term n b = λ i. pick (first_there n olds (old n) && inside-poked b p q v i) (other_place (old n) x b v e i) 0 in
         rw after (other-more (stands n olds b) (stands n olds b') v (peeked b p) (term n b) (first_there n olds x) (inside b p) h)
 
@@ -176,10 +174,10 @@ module _ (olds : Olds) where
     moves zero = refl
     moves (suc n) = step n (same_place (old n) x) refl (moves n)
 
-  stood-poked : (b : Banks) (q : Place) (v n : ℕ) → stood n olds (poked b q v) ≡ stood n olds b
+  stood-poked : (b : Banks) (q : Option Place) (v n : ℕ) → stood n olds (poked b q v) ≡ stood n olds b
   unfolding stood
   stood-poked b q v zero = refl
-  stood-poked b q v (suc n) = λ i. stood-poked b q v n i + pick (first_there n olds (old n) && inside-poked b q (old_place (old n)) v i) (old n).byte 0
+  stood-poked b q v (suc n) = λ i. stood-poked b q v n i + pick (first_there n olds (old n) && inside-poked b q (Some (old_place (old n))) v i) (old n).byte 0
 
   -- the last of them, put back first: s is what stands at the others' places and t what stood there, w the byte that it takes the place of
   last-back : (first here : Bool) (s s' t w v all all' end : ℕ) → end + s' ≡ all' + t → all' + pick here w 0 ≡ all + pick here v 0
@@ -195,28 +193,39 @@ module _ (olds : Olds) where
   unfolding back_from stands stood
   whole_back zero b = refl
   whole_back (suc n) b =
-      let q = old_place (old n) in
+      let q = Some (old_place (old n)) in
       let v = (old n).byte in
       let c = poked b q v in
       let ih = whole_back n c ∙ ap (λ (k : ℕ). whole c + k) (stood-poked b q v n) in
       last-back (first_there n olds (old n)) (inside b q) (stands n olds b) (stands n olds c) (stood n olds b) (peeked b q) v (whole b) (whole c) (whole (back_from n olds c)) ih
       (whole-poked b q v) (moves b (old n) v n)
 
--- a loop that looks for the place among the first n: i are done
-abbrev pub First : (n : ℕ) → Olds → Old → Bool → ℕ → Type 0
-First n olds o first i = (i ≤ n) × (first ≡ first_there i olds o)
+-- a loop that looks for the place among the first n old bytes: not there so far, and there
+module _ (olds : Olds) (o : Old) (i n : ℕ) {same : Bool} (e : same ≡ same_place (get_or (take n olds.items) i no_old) o) (h : i < length (take n olds.items)) where
+  here-so : same ≡ same_place (get_or olds.items i no_old) o
+  here-so = e ∙ ap (λ (x : Old). same_place x o) (get_or-take n olds.items i no_old (omega (arith, h, length-take n olds.items)))
 
-pub first-none : (n : ℕ) (olds : Olds) (o : Old) → First n olds o true 0
-unfolding first_there
-first-none n olds o = (omega arith, refl)
+  pub not-there : first_there i olds o ≡ true → same ≡ false → first_there (i + 1) olds o ≡ true
+  unfolding first_there
+  not-there f g = let k : i + 1 ≡ suc i = omega arith in rw k (λ j. f j && not ((sym here-so ∙ g) j))
 
-pub first_next : (n : ℕ) (olds : Olds) (o : Old) (first : Bool) (i : ℕ) {same : Bool} → First n olds o first i → i < n
-    → same ≡ same_place (get_or olds.items i no_old) o → First n olds o (first && not same) (i + 1)
-unfolding first_there
-first_next n olds o first i f h e = let k : i + 1 ≡ suc i = omega arith in rw k (omega (arith, h), λ j. f.1 j && not (e j))
+  pub there : same ≡ true → false ≡ first_there n olds o
+  unfolding first_there
+  there g =
+      let x = first_there i olds o in
+      let k : suc i ≤ n = omega (arith, h, length-take n olds.items) in
+      sym (gone n k ((λ j. x && not ((sym here-so ∙ g) j)) ∙ and-false x))
+    where
+      and-false : (x : Bool) → x && false ≡ false
+      and-false true = refl
+      and-false false = refl
 
-pub first-all : (n : ℕ) (olds : Olds) (o : Old) (first : Bool) (i : ℕ) → First n olds o first i → n ≤ i → first ≡ first_there n olds o
-first-all n olds o first i f h = let e : i ≡ n = omega (arith, h, f.0) in f.1 ∙ ap (λ (k : ℕ). first_there k olds o) e
+      gone : (n : ℕ) → i < n → first_there (suc i) olds o ≡ false → first_there n olds o ≡ false
+      gone (suc n) l f = elim (dec_lt i n) [
+        | yes m ↦ λ j. gone n m f j && not (same_place (get_or olds.items n no_old) o)
+        | no m ↦ let e : n ≡ i = omega (arith, l, m) in ap (λ (k : ℕ). first_there (suc k) olds o) e ∙ f
+      ]
+      gone zero l f = absurd (omega arith)
 
 -- a loop that goes through the n old bytes: i are done
 pub record Exchanged (n : ℕ) (olds : Olds) (b : Banks) (up down i : ℕ) : Type 0 where
@@ -227,36 +236,61 @@ pub record Exchanged (n : ℕ) (olds : Olds) (b : Banks) (up down i : ℕ) : Typ
   pub up-most : up ≤ 255 * i
   pub down-most : down ≤ 255 * i
 
+add-zero : (x : ℕ) → x + 0 ≡ x
+add-zero x = omega arith
+
 module _ (n : ℕ) (olds : Olds) (b : Banks) where
   pub exchanged-none : n ≤ 4 → Exchanged n olds b 0 0 0
   unfolding stands stood
   exchanged-none h = record { done = omega arith; few = h; up_is = refl; down_is = refl; up-most = omega arith; down-most = omega arith }
 
-  pub exchanged-next : (up down i : ℕ) {o : Old} {p : Place} {first here : Bool} {w v w' : ℕ} → Exchanged n olds b up down i → i < n → o ≡ get_or olds.items i no_old
-      → p ≡ old_place o → first ≡ first_there i olds o → here ≡ inside b p → w ≡ peeked b p → w' ≡ pick (first && here) w 0 → v ≡ pick (first && here) o.byte 0
-      → w' < 256 → v < 256 → Exchanged n olds b (up + w') (down + v) (i + 1)
-  unfolding stands stood
-  exchanged-next up down i x h eo ep ef eh ew ew' ev fw fv =
-      let k : i + 1 ≡ suc i = omega arith in
-      let p = old_place (old olds i) in
-      let here = eh ∙ ap (inside b) (ep ∙ ap old_place eo) in
-      let first = ef ∙ ap (first_there i olds) eo in
-      let stands_here = ew' ∙ (λ j. pick (first j && here j) ((ew ∙ ap (peeked b) (ep ∙ ap old_place eo)) j) 0) in
-      let stood-here = ev ∙ (λ j. pick (first j && here j) (eo j).byte 0) in
-      rw k
-      (record {
-        done = omega (arith, h);
-        few = x.few;
-        up_is = λ j. x.up_is j + stands_here j;
-        down_is = λ j. x.down_is j + stood-here j;
-        up-most = omega (arith, x.up-most, fw);
-        down-most = omega (arith, x.down-most, fv);
-      })
+  -- old byte i counts, and does not
+  module _ (xs : List Old) {up down i : ℕ} (x : Exchanged n olds b up down i) (held : xs ≡ take n olds.items) (in_xs : i < length xs) {p : Place} {first here : Bool}
+      (ep : p ≡ old_place (get_or xs i no_old)) (ef : first ≡ first_there i olds (get_or xs i no_old)) (eh : here ≡ inside b (Some p)) where
+    h : i < n
+    h = omega (arith, in_xs, ap length held, length-take n olds.items)
 
-  pub exchanged-all : (up down i : ℕ) → Exchanged n olds b up down i → n ≤ i → n ≡ min olds.count 4 → ◌≡◌ {A = Change} (record { stands = up; stood = down }) (change_of olds b)
-  exchanged-all up down i x h e =
-      let k : i ≡ min olds.count 4 = omega (arith, x.done, h, e) in
-      λ j. record { stands = (x.up_is ∙ ap (λ (m : ℕ). stands m olds b) k) j; stood = (x.down_is ∙ ap (λ (m : ℕ). stood m olds b) k) j }
+    eo : get_or xs i no_old ≡ get_or olds.items i no_old
+    eo = ap (λ (ys : List Old). get_or ys i no_old) held ∙ get_or-take n olds.items i no_old h
+
+    counts_so : (first && here) ≡ counts i olds b
+    counts_so =
+        let f = ef ∙ ap (first_there i olds) eo in
+        let g = eh ∙ ap (λ (q : Place). inside b (Some q)) (ep ∙ ap old_place eo) in
+        λ j. f j && g j
+
+    pub counted : (first && here) ≡ true → {w : ℕ} → w ≡ peeked b (Some p) → w < 256 → (get_or xs i no_old).byte < 256 → Exchanged n olds b (up + w) (down + (get_or xs i no_old).byte) (i + 1)
+    unfolding stands stood
+    counted t {w} ew fw fo =
+        let k : i + 1 ≡ suc i = omega arith in
+        let c = sym t ∙ counts_so in
+        let e = ew ∙ ap (λ (q : Place). peeked b (Some q)) (ep ∙ ap old_place eo) in
+        let q = get_or olds.items i no_old in
+        rw k
+        (record {
+          done = omega (arith, h);
+          few = x.few;
+          up_is = (λ j. x.up_is j + e j) ∙ (λ j. stands i olds b + pick (c j) (peeked b (Some (old_place q))) 0);
+          down_is = (λ j. x.down_is j + (eo j).byte) ∙ (λ j. stood i olds b + pick (c j) q.byte 0);
+          up-most = omega (arith, x.up-most, fw);
+          down-most = omega (arith, x.down-most, fo);
+        })
+
+    pub uncounted : (first && here) ≡ false → Exchanged n olds b up down (i + 1)
+    unfolding stands stood
+    uncounted t =
+        let k : i + 1 ≡ suc i = omega arith in
+        let c = sym t ∙ counts_so in
+        let q = get_or olds.items i no_old in
+        rw k
+        (record {
+          done = omega (arith, h);
+          few = x.few;
+          up_is = x.up_is ∙ sym (add-zero (stands i olds b)) ∙ (λ j. stands i olds b + pick (c j) (peeked b (Some (old_place q))) 0);
+          down_is = x.down_is ∙ sym (add-zero (stood i olds b)) ∙ (λ j. stood i olds b + pick (c j) q.byte 0);
+          up-most = omega (arith, x.up-most);
+          down-most = omega (arith, x.down-most);
+        })
 
 -- ---- a sum that follows the banks
 
@@ -309,7 +343,7 @@ module _ (sum : ℕ) (b : Banks) where
     follow-before d fit = follow-by sum x.stood x.stands b (put_back olds b) change-is d fit
 
   -- a byte put where the banks have a place, and where they have none
-  module _ (p : Place) (v : ℕ) {here : Bool} (is : here ≡ inside b p) where
+  module _ (p : Option Place) (v : ℕ) {here : Bool} (is : here ≡ inside b p) where
     pub follow-put : {w r : ℕ} → here ≡ true → w ≡ peeked b p → (r + w) % 2 ^ 32 ≡ (sum + v) % 2 ^ 32 → r < 2 ^ 32 → r ≡ follows sum b (poked b p v)
     follow-put {w} {r} t q d fit =
         follow-by sum v (peeked b p) b (poked b p v) (rw (sym is ∙ t) at (whole-poked b p v)) (ap (λ (k : ℕ). (r + k) % 2 ^ 32) (sym q) ∙ d) fit

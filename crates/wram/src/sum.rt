@@ -1,21 +1,18 @@
 // The sum of all bytes of work RAM, modulo 2^32: added up once, then kept by difference.
 ghost use Rattle.std.specs.Prelude.{◌≡◌, ◌+◌, ◌%◌, ◌^◌, ◌≤◌};
-ghost use Rattle.common.specs.Pick.{pick};
 ghost use Rattle.wram.specs.Banks.{banks, poked};
 ghost use Rattle.wram.specs.Olds.{put_back};
 ghost use Rattle.wram.specs.Change.{same_place, first_there, inside, change_of};
 ghost use Rattle.wram.specs.Sum.{total, ram_sum, follows};
 
-use crate::{Old, Olds, Place, byte, peek, place_of, stored};
+use crate::{Old, Olds, Place, peek, place_of};
 
 fn bank_sum(bank: &[u8]) -> u32
     ensures { result ≡ total bank.now % 2 ^ 32 }
 {
     let mut sum: u32 = 0;
-    let mut i: usize = 0;
-    while i < bank.len() {
-        sum = std::num::wrapping_add_u32(sum, byte(bank, i) as u32);
-        i += 1;
+    for byte in bank {
+        sum = sum.wrapping_add(*byte as u32);
     }
     sum
 }
@@ -23,15 +20,13 @@ fn bank_sum(bank: &[u8]) -> u32
 pub fn ram_sum(low: &[u8], high: &[u8]) -> u32
     ensures { result ≡ ram_sum (banks low.now high.now) }
 {
-    let first = bank_sum(low);
-    let second = bank_sum(high);
-    std::num::wrapping_add_u32(first, second)
+    bank_sum(low).wrapping_add(bank_sum(high))
 }
 
 fn same_place(a: Old, b: Old) -> bool
     ensures { result ≡ same_place a b }
 {
-    (a.addr == b.addr) & (a.high == b.high)
+    (a.addr, a.high) == (b.addr, b.high)
 }
 
 // Whether none of the first n old bytes is of the same place.
@@ -39,31 +34,22 @@ fn first_there(olds: Olds, n: usize, old: Old) -> bool
     requires { n ≤ 4 }
     ensures { result ≡ first_there n olds old }
 {
-    let mut first = true;
-    let mut i: usize = 0;
-    while i < n {
-        let other = olds.items[i];
-        let same = same_place(other, old);
-        first = first & !same;
-        i += 1;
+    for other in &olds.items[..n] {
+        if same_place(*other, old) {
+            return false;
+        }
     }
-    first
+    true
 }
 
-fn inside(low: &[u8], high: &[u8], place: Place) -> bool
+fn inside(low: &[u8], high: &[u8], place: Option<Place>) -> bool
     ensures { result ≡ inside (banks low.now high.now) place }
 {
     match place {
-        Place::Nowhere => false,
-        Place::Bank7E(at) => (at as usize) < low.len(),
-        Place::Bank7F(at) => (at as usize) < high.len(),
+        None => false,
+        Some(Place::Bank7E(at)) => (at as usize) < low.len(),
+        Some(Place::Bank7F(at)) => (at as usize) < high.len(),
     }
-}
-
-fn only_if(on: bool, value: u8) -> u8
-    ensures { result ≡ pick on value 0 }
-{
-    if on { value } else { 0 }
 }
 
 // The bytes that stand at the places written, and those that stood there before the operation, each place once.
@@ -77,30 +63,23 @@ struct Change {
 fn exchanged(low: &[u8], high: &[u8], olds: Olds) -> Change
     ensures { result ≡ change_of olds (banks low.now high.now) }
 {
-    let n = stored(olds);
     let mut stands: u32 = 0;
     let mut stood: u32 = 0;
-    let mut i: usize = 0;
-    while i < n {
-        let old = olds.items[i];
-        let place = place_of(old);
-        let counts = first_there(olds, i, old) & inside(low, high, place);
-        stands += only_if(counts, peek(low, high, place)) as u32;
-        stood += only_if(counts, old.byte) as u32;
-        i += 1;
+    for (i, old) in olds.held().iter().enumerate() {
+        let place = Some(place_of(*old));
+        if first_there(olds, i, *old) & inside(low, high, place) {
+            stands += peek(low, high, place) as u32;
+            stood += old.byte as u32;
+        }
     }
-    Change {
-        stands: stands,
-        stood: stood,
-    }
+    Change { stands, stood }
 }
 
 // So much more and so much less, modulo 2^32.
 fn shifted(sum: u32, more: u32, less: u32) -> u32
     ensures { (result + less) % 2 ^ 32 ≡ (sum + more) % 2 ^ 32 }
 {
-    let up = std::num::wrapping_add_u32(sum, more);
-    std::num::wrapping_sub_u32(up, less)
+    sum.wrapping_add(more).wrapping_sub(less)
 }
 
 // The sum after an operation that overwrote these bytes.
@@ -120,7 +99,7 @@ pub fn sum_before(sum: u32, low: &[u8], high: &[u8], olds: Olds) -> u32
 }
 
 // The sum once a byte is put at a place.
-pub fn sum_with(sum: u32, low: &[u8], high: &[u8], place: Place, value: u8) -> u32
+pub fn sum_with(sum: u32, low: &[u8], high: &[u8], place: Option<Place>, value: u8) -> u32
     ensures { result ≡ follows sum (banks low.now high.now) (poked (banks low.now high.now) place value) }
 {
     if inside(low, high, place) {

@@ -1,12 +1,11 @@
-use Rattle.std.proofs.Common.{refl}
-use Rattle.wram.proofs.Undo.{going_start, going_next, going_end}
+use Rattle.wram.proofs.Undo.{back-start, back-step, back-end}
 use Rattle.wram.proofs.put_back.Goals as goal
 
-pub loop-n-init : goal.loop-n-init
-loop-n-init c = going_start _ _ c.stored-n.ensures
+pub loop-old-init : goal.loop-old-init
+loop-old-init c = back-start _ _ c.into_iter-old-iterator.result.iter.rest.now (cc) (cc)
 
-pub loop-n-preserved : goal.loop-n-preserved
-loop-n-preserved c = going_next _ _ c.loop-n.invariant c.loop-n-test.true refl refl c.place_of-place.ensures c.poke.ensures
+pub loop-old-preserved : goal.loop-old-preserved
+loop-old-preserved c = back-step _ _ _ _ _ c.loop-old.invariant c.in-Some.ensures.steps c.place_of.ensures c.poke.ensures
 
 pub returns : goal.returns
-returns c = going_end _ _ c.loop-n.invariant c.loop-n-test.false
+returns c = back-end _ _ _ c.loop-old.invariant c.in-None.ensures.steps.0

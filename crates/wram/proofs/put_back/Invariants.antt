@@ -1,9 +1,8 @@
+use Rattle.std.proofs.Common.{◌≡◌}
 use Rattle.wram.specs.Banks.{banks}
-use Rattle.wram.proofs.Undo.{Going}
+use Rattle.wram.specs.Olds.{put_back}
+use Rattle.wram.proofs.Undo.{back}
 use Rattle.wram.proofs.put_back.Given as goal
 
-abbrev pub invariant-loop-n : goal.invariant-loop-n
-invariant-loop-n l = Going l.olds (banks l.initial.low l.initial.high) (banks l.low l.high) l.n
-
-abbrev pub decreases-loop-n : goal.decreases-loop-n
-decreases-loop-n l = l.n
+abbrev pub invariant-loop-old : goal.invariant-loop-old
+invariant-loop-old l = back l.old-iterator.iter.rest.now (banks l.low l.high) ≡ put_back l.fn.olds (banks l.fn.low l.fn.high)

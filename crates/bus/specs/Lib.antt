@@ -3,3 +3,4 @@ pub mod Route
 pub mod Access
 pub mod World
 pub mod View
+pub mod Lent

@@ -5,7 +5,7 @@ use Rattle.wram.specs.Banks.{Banks, banks, peeked, poked}
 use Rattle.wram.specs.{Olds.kept_at, Olds.Olds, declared.Place.Place}
 use Rattle.bus.specs.Access.{Log, push_access, io_written, register_read}
 use Rattle.bus.specs.Route.{route_of, place_of}
-use Rattle.bus.specs.declared.{access.BusRead.BusRead, access.Core.Core}
+use Rattle.bus.specs.declared.access.Core.{Core}
 
 -- what stands on the bus: registers, log and bytes overwritten, and both banks
 pub record World : Type 0 where
@@ -20,10 +20,6 @@ pub record Reading : Type 0 where
 -- a world of the code's values
 abbrev pub world : Core → List ℕ → List ℕ → World
 world k l h = record { core = k; ram = banks l h }
-
--- a read's answer with both banks
-abbrev pub reading : BusRead → List ℕ → List ℕ → Reading
-reading r l h = record { world = world r.core l h; byte = r.byte }
 
 -- registers, log and bytes overwritten put together
 abbrev pub core : Io → Log → Olds → Core

@@ -1,9 +1,8 @@
 // Reads and writes on the bus. Each is logged, and each byte of work RAM that a write replaces is kept.
 ghost use Rattle.std.specs.Prelude.{◌≡◌};
 ghost use Rattle.bus.specs.Access.{no_log, opened, data_stepped, io_written, register_read};
-ghost use Rattle.bus.specs.World.{world, reading, read_at, write_at};
 
-use crate::route::{Route, place_of, route_of};
+use crate::route::Route;
 use common::counted::Counted;
 use registers::Io;
 use registers::read::IoRead;
@@ -28,12 +27,6 @@ pub struct Core {
     pub io: Io,
     pub log: Log,
     pub olds: Olds,
-}
-
-#[derive(Clone, Copy)]
-pub struct BusRead {
-    pub core: Core,
-    pub byte: u8,
 }
 
 pub fn no_log() -> Log
@@ -72,7 +65,7 @@ fn step_data(io: Io, byte: u8) -> Io
 
 // What a write does to the registers.
 #[tactic(auto, unfolding(crate::specs::Access::io_written))]
-fn write_io(io: Io, way: Route, addr: u16, byte: u8) -> Io
+pub fn write_io(io: Io, way: Route, addr: u16, byte: u8) -> Io
     ensures { result ≡ io_written io way addr byte }
 {
     match way {
@@ -84,7 +77,7 @@ fn write_io(io: Io, way: Route, addr: u16, byte: u8) -> Io
 
 // What a read gives and does to the registers; `byte` is what work RAM holds at the place, if it has one.
 #[tactic(auto, unfolding(crate::specs::Access::register_read))]
-fn read_io(io: Io, rom: &[u8], way: Route, bank: u8, addr: u16, byte: u8) -> IoRead
+pub fn read_io(io: Io, rom: &[u8], way: Route, bank: u8, addr: u16, byte: u8) -> IoRead
     ensures { result ≡ register_read rom.now io way bank addr byte }
 {
     match way {
@@ -98,44 +91,5 @@ fn read_io(io: Io, rom: &[u8], way: Route, bank: u8, addr: u16, byte: u8) -> IoR
             io,
             byte: cartridge::read(rom, bank, addr, io.openbus),
         },
-    }
-}
-
-pub fn read(core: Core, low: &[u8], high: &[u8], rom: &[u8], bank: u8, addr: u16) -> BusRead
-    ensures { reading result low.now high.now ≡ read_at rom.now (world core low.now high.now) bank addr }
-{
-    let way = route_of(bank, addr);
-    let place = place_of(core.io.wmadd, way, addr);
-    let held = wram::peek(low, high, place);
-    let IoRead { io, byte } = read_io(core.io, rom, way, bank, addr, held);
-    let log = core.log.push(Access {
-        write: false,
-        bank,
-        addr,
-        byte,
-    });
-    BusRead {
-        core: Core { io, log, ..core },
-        byte,
-    }
-}
-
-pub fn write(core: Core, low: &mut [u8], high: &mut [u8], bank: u8, addr: u16, byte: u8) -> Core
-    ensures { world result low.new high.new ≡ write_at (world core low.old high.old) bank addr byte }
-{
-    let way = route_of(bank, addr);
-    let place = place_of(core.io.wmadd, way, addr);
-    let olds = wram::keep_old(core.olds, low, high, place);
-    wram::poke(low, high, place, byte);
-    let log = core.log.push(Access {
-        write: true,
-        bank,
-        addr,
-        byte,
-    });
-    Core {
-        io: write_io(core.io, way, addr, byte),
-        log,
-        olds,
     }
 }

@@ -2,6 +2,7 @@
 #![tactic(auto)]
 
 pub mod access;
+pub mod bus;
 pub mod route;
 pub mod speed;
 pub mod view;

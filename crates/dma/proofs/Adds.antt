@@ -5,7 +5,7 @@ use Rattle.bus.proofs.Adds.{Adds, adds_none, adds_trans, adds-more, channel-adds
 use Rattle.bus.specs.View.{channel_of, mdmaen_of}
 use Rattle.hdma.proofs.Adds.{init-adds, line-adds}
 use Rattle.hdma.specs.Engine.{DmaWorld, at}
-use Rattle.hdma.specs.declared.engine.DmaCore.{DmaCore}
+use Rattle.hdma.specs.Engine.{DmaCore}
 use Rattle.state.specs.declared.{DmaProgress.DmaProgress, DmaState.DmaState}
 use Rattle.state.specs.declared.DmaState.TheVariants.{Idle, Startup, Dma as General, Hdma}
 use Rattle.transfer.proofs.Adds.{transfer-adds}

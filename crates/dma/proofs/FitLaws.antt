@@ -7,7 +7,7 @@ use Rattle.bus.proofs.FitLaws.{channel-fits, with_channel-fits, mdmaen-fits, hdm
 use Rattle.bus.specs.View.{channel_of, with_channel, mdmaen_of, with_core}
 use Rattle.hdma.proofs.FitLaws.{init-fits, line-fits, FitDmaWorld}
 use Rattle.hdma.specs.Engine.{DmaWorld}
-use Rattle.hdma.specs.declared.engine.DmaCore.{DmaCore}
+use Rattle.hdma.specs.Engine.{DmaCore}
 use Rattle.common.specs.Width.{Byte, Bytes}
 use Rattle.registers.specs.Groups.{with_dma_channel_das}
 use Rattle.state.specs.Fit.{FitProgress, FitDma}

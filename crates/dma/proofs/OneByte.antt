@@ -6,7 +6,7 @@ use Rattle.bus.specs.View.{channel_of, with_channel, mdmaen_of, with_mdmaen}
 use Rattle.bus.specs.World.{World}
 use Rattle.bus.specs.declared.access.Core.{Core}
 use Rattle.hdma.specs.Engine.{at, with_wait, with_progress}
-use Rattle.hdma.specs.declared.engine.DmaCore.{DmaCore}
+use Rattle.hdma.specs.Engine.{DmaCore}
 use Rattle.registers.specs.Groups.{with_dma_channel_a1t, with_dma_channel_das}
 use Rattle.registers.specs.declared.channel.DmaChannel.{DmaChannel}
 use Rattle.state.specs.Progress.{progress_at}

@@ -6,7 +6,7 @@ use Rattle.common.proofs.TableLaws.{pick_elim, pick_case}
 use Rattle.bus.specs.View.{channel_of, mdmaen_of}
 use Rattle.hdma.proofs.Ranges.{init-ok, line_ok}
 use Rattle.hdma.specs.Engine.{DmaWorld, at, with_state, with_init}
-use Rattle.hdma.specs.declared.engine.DmaCore.{DmaCore}
+use Rattle.hdma.specs.Engine.{DmaCore}
 use Rattle.state.proofs.Ranges.{ProgressOk, DmaOk}
 use Rattle.state.specs.declared.{Dma.Dma, DmaProgress.DmaProgress}
 use Rattle.state.specs.declared.DmaState.{DmaState}

@@ -3,8 +3,7 @@ use Rattle.std.specs.Prelude.{ℕ, ◌+◌, ◌-◌, ◌%◌, Bool, true, false,
 use Rattle.common.specs.Pick.{pick}
 use Rattle.bus.specs.View.{mdmaen_of, hdmaen_of}
 use Rattle.dma.specs.{General.dma_step, Pass.hdma_step}
-use Rattle.dma.specs.declared.cycle.Cycled.{Cycled}
-use Rattle.hdma.specs.Engine.{DmaWorld, dma_world, at, with_state, with_wait, with_running, with_pending, with_queue}
+use Rattle.hdma.specs.Engine.{DmaWorld, at, with_state, with_wait, with_running, with_pending, with_queue}
 use Rattle.state.specs.declared.{Dma.Dma, DmaState.DmaState}
 use Rattle.state.specs.declared.DmaState.TheVariants.{Idle, Startup, Dma as General, Hdma}
 
@@ -33,10 +32,6 @@ takeover d queue = with_wait (with_queue (with_pending (with_state d Hdma) false
 pub record Held : Type 0 where
   pub after : DmaWorld
   pub held : Bool
-
--- these of the code's values
-abbrev pub cycling : Cycled → List ℕ → List ℕ → Held
-cycling c l h = record { after = dma_world c.after l h; held = c.held }
 
 -- a cycle that held it
 abbrev pub holding : DmaWorld → Held

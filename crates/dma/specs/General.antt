@@ -4,8 +4,7 @@ use Rattle.common.specs.Pick.{pick}
 use Rattle.bus.specs.View.{channel_of, with_channel, mdmaen_of, with_mdmaen}
 use Rattle.bus.specs.World.{World}
 use Rattle.bus.specs.declared.access.Core.{Core}
-use Rattle.hdma.specs.Engine.{DmaWorld, at, with_state, with_wait, with_running, with_progress}
-use Rattle.hdma.specs.declared.engine.DmaCore.{DmaCore}
+use Rattle.hdma.specs.Engine.{DmaCore, DmaWorld, at, with_state, with_wait, with_running, with_progress}
 use Rattle.registers.specs.Groups.{with_dma_channel_das}
 use Rattle.state.specs.Progress.{progress_at}
 use Rattle.state.specs.declared.{Dma.Dma, DmaProgress.DmaProgress}

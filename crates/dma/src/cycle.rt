@@ -1,12 +1,11 @@
 // One master cycle of the DMA unit, and whether it holds the bus.
 ghost use Rattle.std.specs.Prelude.{◌≡◌};
-ghost use Rattle.dma.specs.Cycle.{cycling, aligned_wait, start_pending, due_of, acted, updated};
-ghost use Rattle.hdma.specs.Engine.{dma_world};
+ghost use Rattle.dma.specs.Cycle.{aligned_wait, start_pending, due_of, acted, updated};
+ghost use Rattle.hdma.specs.Lent.{unit, unit_on, left_on};
 
 use crate::general::dma_step;
 use crate::pass::hdma_step;
-use bus::view::{hdmaen_of, mdmaen_of};
-use hdma::engine::DmaCore;
+use bus::bus::Bus;
 use state::{Dma, DmaState};
 
 // Up to the next slot of eight cycles, and eight more, less the cycle that starts it.
@@ -18,90 +17,56 @@ fn aligned_wait(clock: u64) -> u32
 
 // MDMAEN asks for a transfer, and none is running: it starts, whatever the unit was doing.
 #[tactic(auto, unfolding(crate::specs::Cycle::start_pending))]
-fn start_pending_dma(d: Dma, mask: u8, clock: u64) -> Dma
-    ensures { result ≡ start_pending d mask clock }
+fn start_pending_dma(dma: &mut Dma, mask: u8, clock: u64)
+    ensures { dma.new ≡ start_pending dma.old mask clock }
 {
-    if d.running || mask == 0 {
-        return d;
-    }
-    Dma {
-        state: DmaState::Startup,
-        running: true,
-        wait: aligned_wait(clock),
-        ..d
+    if !dma.running && mask != 0 {
+        dma.state = DmaState::Startup;
+        dma.running = true;
+        dma.wait = aligned_wait(clock);
     }
 }
 
 // A pending H-blank pass takes over only between actions.
 #[tactic(auto, unfolding(crate::specs::Cycle::due_of))]
-fn due(d: Dma) -> bool
-    ensures { result ≡ due_of d }
+fn due(dma: &Dma) -> bool
+    ensures { result ≡ due_of dma.now }
 {
-    d.pending && d.wait == 0
+    dma.pending && dma.wait == 0
 }
 
-#[derive(Clone, Copy)]
-pub struct Cycled {
-    pub after: DmaCore,
-    pub held: bool,
-}
-
-// The action of the unit's state. Only an idle unit leaves the bus alone.
+// The action of the unit's state; whether it holds the bus.
 #[tactic(auto, unfolding(crate::specs::Cycle::acted, crate::specs::Cycle::act_by))]
-fn act(m: DmaCore, low: &mut [u8], high: &mut [u8], rom: &[u8]) -> Cycled
-    ensures { cycling result low.new high.new ≡ acted rom.now (dma_world m low.old high.old) }
+fn act(bus: &mut Bus<'_, '_>, dma: &mut Dma) -> bool
+    ensures held { result ≡ (acted bus.old.rom.now (unit_on bus.old dma.old)).held }
+    ensures after { unit bus.new dma.new ≡ left_on bus.old (acted bus.old.rom.now (unit_on bus.old dma.old)).after }
 {
-    let after = match m.dma.state {
-        DmaState::Idle => m,
-        DmaState::Startup => DmaCore {
-            dma: Dma {
-                state: DmaState::Dma,
-                ..m.dma
-            },
-            ..m
-        },
-        DmaState::Dma => dma_step(m, low, high, rom),
-        DmaState::Hdma => hdma_step(m, low, high, rom),
-    };
-    Cycled {
-        after,
-        held: m.dma.state != DmaState::Idle,
+    match dma.state {
+        DmaState::Idle => return false,
+        DmaState::Startup => dma.state = DmaState::Dma,
+        DmaState::Dma => dma_step(bus, dma),
+        DmaState::Hdma => hdma_step(bus, dma),
     }
+    true
 }
 
 #[tactic(auto, unfolding(crate::specs::Cycle::updated))]
-pub fn update_dma_cycles(
-    m: DmaCore,
-    low: &mut [u8],
-    high: &mut [u8],
-    rom: &[u8],
-    clock: u64,
-) -> Cycled
-    ensures { cycling result low.new high.new ≡ updated rom.now (dma_world m low.old high.old) clock }
+pub fn update_dma_cycles(bus: &mut Bus<'_, '_>, dma: &mut Dma, clock: u64) -> bool
+    ensures held { result ≡ (updated bus.old.rom.now (unit_on bus.old dma.old) clock).held }
+    ensures after { unit bus.new dma.new ≡ left_on bus.old (updated bus.old.rom.now (unit_on bus.old dma.old) clock).after }
 {
-    let d = start_pending_dma(m.dma, mdmaen_of(m.core), clock);
-    if due(d) {
-        let dma = Dma {
-            state: DmaState::Hdma,
-            pending: false,
-            queue: hdmaen_of(m.core),
-            wait: 17,
-            ..d
-        };
-        return Cycled {
-            after: DmaCore { dma, ..m },
-            held: true,
-        };
+    let mask = bus.mdmaen();
+    start_pending_dma(dma, mask, clock);
+    if due(dma) {
+        dma.state = DmaState::Hdma;
+        dma.pending = false;
+        dma.queue = bus.hdmaen();
+        dma.wait = 17;
+        return true;
     }
-    if 0 < d.wait {
-        let dma = Dma {
-            wait: d.wait - 1,
-            ..d
-        };
-        return Cycled {
-            after: DmaCore { dma, ..m },
-            held: true,
-        };
+    if 0 < dma.wait {
+        dma.wait -= 1;
+        return true;
     }
-    act(DmaCore { dma: d, ..m }, low, high, rom)
+    act(bus, dma)
 }

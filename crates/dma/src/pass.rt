@@ -1,9 +1,9 @@
 // An H-blank pass: the queued channels one by one, then the bus goes back.
 ghost use Rattle.std.specs.Prelude.{◌≡◌};
 ghost use Rattle.dma.specs.Pass.{drained_of, hdma_step};
-ghost use Rattle.hdma.specs.Engine.{dma_world};
+ghost use Rattle.hdma.specs.Lent.{unit, unit_on, left_on};
 
-use hdma::engine::DmaCore;
+use bus::bus::Bus;
 use hdma::entry::init_channel;
 use hdma::line::line_channel;
 use state::{Dma, DmaState};
@@ -11,35 +11,30 @@ use transfer::bits::{clear_bit, lowest_bit};
 
 // A general transfer that was stopped goes on where it paused.
 #[tactic(auto, unfolding(crate::specs::Pass::drained_of))]
-fn drained(d: Dma) -> Dma
-    ensures { result ≡ drained_of d }
+fn drained(dma: &mut Dma)
+    ensures { dma.new ≡ drained_of dma.old }
 {
-    let state = if d.running {
+    dma.state = if dma.running {
         DmaState::Dma
     } else {
         DmaState::Idle
     };
-    Dma {
-        state,
-        init: false,
-        ..d
-    }
+    dma.init = false;
 }
 
 #[tactic(auto, unfolding(crate::specs::Pass::hdma_step))]
-pub fn hdma_step(m: DmaCore, low: &mut [u8], high: &mut [u8], rom: &[u8]) -> DmaCore
-    ensures { dma_world result low.new high.new ≡ hdma_step rom.now (dma_world m low.old high.old) }
+pub fn hdma_step(bus: &mut Bus<'_, '_>, dma: &mut Dma)
+    ensures { unit bus.new dma.new ≡ left_on bus.old (hdma_step bus.old.rom.now (unit_on bus.old dma.old)) }
 {
-    if m.dma.queue == 0 {
-        let dma = drained(m.dma);
-        return DmaCore { dma, ..m };
+    if dma.queue == 0 {
+        drained(dma);
+        return;
     }
-    let ch = lowest_bit(m.dma.queue);
-    let queue = clear_bit(m.dma.queue, ch);
-    let dma = Dma { queue, ..m.dma };
-    let unqueued = DmaCore { dma, ..m };
+    let ch = lowest_bit(dma.queue);
+    dma.queue = clear_bit(dma.queue, ch);
     if dma.init {
-        return init_channel(unqueued, low, high, rom, ch);
+        init_channel(bus, dma, ch);
+    } else {
+        line_channel(bus, dma, ch);
     }
-    line_channel(unqueued, low, high, rom, ch)
 }

@@ -14,7 +14,7 @@ use Rattle.dma.specs.Cycle.{Held, start_pending, due_of, act_by, acted, updated}
 use Rattle.dma.specs.General.{after_byte, on_banks, step_from, dma_step}
 use Rattle.dma.specs.Pass.{unqueued, hdma_step}
 use Rattle.hdma.specs.Engine.{DmaWorld, at}
-use Rattle.hdma.specs.declared.engine.DmaCore.{DmaCore}
+use Rattle.hdma.specs.Engine.{DmaCore}
 use Rattle.machine.proofs.Before.{before-wmadd}
 use Rattle.machine.specs.Cycle.{begun, cycled}
 use Rattle.machine.specs.declared.event.Event.{Event}

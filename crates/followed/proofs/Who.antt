@@ -13,7 +13,7 @@ use Rattle.dma.specs.Cycle.{Held, start_pending, due_of, cycle_from, aligned_wai
 use Rattle.dma.specs.General.{after_byte, on_banks, step_from, dma_step}
 use Rattle.dma.specs.Pass.{hdma_step}
 use Rattle.hdma.specs.Engine.{DmaWorld, at}
-use Rattle.hdma.specs.declared.engine.DmaCore.{DmaCore}
+use Rattle.hdma.specs.Engine.{DmaCore}
 use Rattle.machine.specs.Cycle.{armed, begun, cycled}
 use Rattle.machine.specs.declared.event.Event.{Event}
 use Rattle.state.specs.declared.{Dma.Dma, DmaProgress.DmaProgress}

@@ -14,7 +14,7 @@ use Rattle.common.specs.Pick.{pick}
 use Rattle.dma.specs.General.{after_byte}
 use Rattle.bus.proofs.Channels.{channel-put}
 use Rattle.fullsnes.specs.Said.{bytes_of, das_after, Lasts}
-use Rattle.hdma.specs.declared.engine.DmaCore.{DmaCore}
+use Rattle.hdma.specs.Engine.{DmaCore}
 use Rattle.registers.specs.Groups.{with_dma_channel_das}
 use Rattle.state.specs.Progress.{progress_at}
 use Rattle.state.specs.declared.Dma.{Dma}

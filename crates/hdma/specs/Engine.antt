@@ -1,9 +1,9 @@
 -- The DMA unit (src/dma.rs, struct Dma) beside the world of the bus. Each field has its setter.
 use Rattle.std.specs.Prelude.{ℕ, ◌%◌, Bool, List, get_or, set, Option}
-use Rattle.bus.specs.World.{World, world}
+use Rattle.bus.specs.World.{World}
 use Rattle.state.specs.Hdma.{no_hdma}
 use Rattle.state.specs.declared.{Dma.Dma, DmaProgress.DmaProgress, DmaState.DmaState, HdmaChannelState.HdmaChannelState}
-use Rattle.hdma.specs.declared.engine.DmaCore.{DmaCore}
+use Rattle.bus.specs.declared.access.Core.{Core}
 
 abbrev pub with_state : Dma → DmaState → Dma
 with_state d v = record { state = v; wait = d.wait; running = d.running; progress = d.progress; pending = d.pending; init = d.init; queue = d.queue; channels = d.channels }
@@ -29,14 +29,15 @@ with_queue d v = record { state = d.state; wait = d.wait; running = d.running; p
 abbrev pub with_channels : Dma → List HdmaChannelState → Dma
 with_channels d v = record { state = d.state; wait = d.wait; running = d.running; progress = d.progress; pending = d.pending; init = d.init; queue = d.queue; channels = v }
 
--- the DMA unit with registers, log, bytes overwritten and both banks
+-- the DMA unit with registers, log and bytes overwritten
+pub record DmaCore : Type 0 where
+  pub core : Core
+  pub dma : Dma
+
+-- and with both banks
 pub record DmaWorld : Type 0 where
   pub world : World
   pub dma : Dma
-
--- these of the code's values
-abbrev pub dma_world : DmaCore → List ℕ → List ℕ → DmaWorld
-dma_world m l h = record { world = world m.core l h; dma = m.dma }
 
 -- a world and a DMA unit put together
 abbrev pub at : World → Dma → DmaWorld

@@ -7,8 +7,7 @@ use Rattle.bus.specs.World.{World, Reading}
 use Rattle.registers.specs.Groups.{with_dma_channel_a2a}
 use Rattle.state.specs.declared.{Dma.Dma, HdmaChannelState.HdmaChannelState}
 use Rattle.transfer.specs.{Bits.flag_of, Bits.down, Table.table_read, Table.das_loaded}
-use Rattle.hdma.specs.Engine.{DmaWorld, dma_world, at, hdma_at, set_hdma}
-use Rattle.hdma.specs.declared.entry.Reload.{Reload}
+use Rattle.hdma.specs.Engine.{DmaWorld, at, hdma_at, set_hdma}
 
 -- DMAP bit 6: the table gives addresses
 abbrev pub indirect_at : DmaWorld → ℕ → Bool
@@ -19,10 +18,6 @@ pub record Reloaded : Type 0 where
   pub after : DmaWorld
   pub wait : ℕ
   pub stop : Bool
-
--- these of the code's values
-abbrev pub reloading : Reload → List ℕ → List ℕ → Reloaded
-reloading r l h = record { after = dma_world r.after l h; wait = unwrap_or r.wait 7; stop = is_none r.wait }
 
 -- the table has ended
 abbrev pub ended : HdmaChannelState → HdmaChannelState

@@ -2,3 +2,4 @@
 pub mod Engine
 pub mod Entry
 pub mod Line
+pub mod Lent

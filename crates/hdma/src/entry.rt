@@ -1,116 +1,83 @@
 // Table entries: the first of a frame, a new one where the counter ran out, and the counter's step.
-ghost use Rattle.std.specs.Prelude.{◌≡◌};
-ghost use Rattle.hdma.specs.Engine.{dma_world};
-ghost use Rattle.hdma.specs.Entry.{reloading, reloaded, counted, init_channel};
+ghost use Rattle.std.specs.Prelude.{◌≡◌, is_none, unwrap_or};
+ghost use Rattle.hdma.specs.Lent.{unit, unit_on, left_on};
+ghost use Rattle.hdma.specs.Entry.{reloaded, counted, init_channel};
 
-use crate::engine::{DmaCore, hdma_of, set_hdma};
-use bus::view::{channel_of, with_channel};
+use crate::engine::{hdma_of, set_hdma};
+use bus::bus::Bus;
 use registers::channel::DmaChannel;
 use state::{Dma, HdmaChannelState};
-use transfer::bits::{dec8, flag};
+use transfer::bits::flag;
 use transfer::table::{load_das, read_table};
 
-// `wait` is the cost so far less one, and `None` where the table ended.
-#[derive(Clone, Copy)]
-pub struct Reload {
-    pub after: DmaCore,
-    pub wait: Option<u8>,
-}
-
-// A new entry, where the low seven bits of the counter are 0.
+// A new entry, where the low seven bits of the counter are 0. Answers the cost so far less one; none, where the table ended.
 #[tactic(auto, unfolding(crate::specs::Entry::reloaded))]
-pub fn reload_entry(
-    m: DmaCore,
-    low: &[u8],
-    high: &[u8],
-    rom: &[u8],
-    ch: u8,
-    indirect: bool,
-) -> Reload
-    ensures { reloading result low.now high.now ≡ reloaded rom.now (dma_world m low.now high.now) ch indirect }
+pub fn reload_entry(bus: &mut Bus<'_, '_>, dma: &mut Dma, ch: u8, indirect: bool) -> Option<u8>
+    ensures stop { is_none result ≡ (reloaded bus.old.rom.now (unit_on bus.old dma.old) ch indirect).stop }
+    ensures wait { unwrap_or result 7 ≡ (reloaded bus.old.rom.now (unit_on bus.old dma.old) ch indirect).wait }
+    ensures after { unit bus.new dma.new ≡ left_on bus.old (reloaded bus.old.rom.now (unit_on bus.old dma.old) ch indirect).after }
 {
-    let h = hdma_of(m.dma, ch);
+    let h = hdma_of(dma, ch);
     if flag(h.counter, 0x7F) {
-        return Reload {
-            after: m,
-            wait: Some(7),
-        };
+        return Some(7);
     }
-    let r = read_table(m.core, low, high, rom, ch);
-    if r.byte == 0 {
+    let counter = read_table(bus, ch);
+    if counter == 0 {
         let ended = HdmaChannelState {
             finished: true,
             ..h
         };
-        let dma = set_hdma(m.dma, ch, ended, 7);
-        return Reload {
-            after: DmaCore { core: r.core, dma },
-            wait: None,
-        };
+        set_hdma(dma, ch, ended, 7);
+        return None;
     }
     let started = HdmaChannelState {
-        counter: r.byte,
+        counter,
         transfer: true,
         ..h
     };
-    let dma = set_hdma(m.dma, ch, started, m.dma.wait);
+    let wait = dma.wait;
+    set_hdma(dma, ch, started, wait);
     if indirect {
-        let core = load_das(r.core, low, high, rom, ch);
-        return Reload {
-            after: DmaCore { core, dma },
-            wait: Some(23),
-        };
+        load_das(bus, ch);
+        return Some(23);
     }
-    Reload {
-        after: DmaCore { core: r.core, dma },
-        wait: Some(7),
-    }
+    Some(7)
 }
 
 // The counter goes down. Bit 7 of what it was asks for a transfer on each line.
 #[tactic(auto, unfolding(crate::specs::Entry::counted))]
-pub fn count_line(d: Dma, ch: u8, wait: u32) -> Dma
-    ensures { result ≡ counted d ch wait }
+pub fn count_line(dma: &mut Dma, ch: u8, wait: u32)
+    ensures { dma.new ≡ counted dma.old ch wait }
 {
-    let h = hdma_of(d, ch);
-    let counter = dec8(h.counter);
+    let h = hdma_of(dma, ch);
+    let counter = h.counter.wrapping_sub(1);
     let transfer = flag(h.counter, 0x80) || !flag(counter, 0x7F);
     let next = HdmaChannelState {
         counter,
         transfer,
         ..h
     };
-    set_hdma(d, ch, next, wait)
+    set_hdma(dma, ch, next, wait);
 }
 
 // Once a frame the table pointer goes back to the table's start, and the first entry is read.
 #[tactic(auto, unfolding(crate::specs::Entry::init_channel))]
-pub fn init_channel(m: DmaCore, low: &[u8], high: &[u8], rom: &[u8], ch: u8) -> DmaCore
-    ensures { dma_world result low.now high.now ≡ init_channel rom.now (dma_world m low.now high.now) ch }
+pub fn init_channel(bus: &mut Bus<'_, '_>, dma: &mut Dma, ch: u8)
+    ensures { unit bus.new dma.new ≡ left_on bus.old (init_channel bus.old.rom.now (unit_on bus.old dma.old) ch) }
 {
-    let c = channel_of(m.core, ch);
+    let c = bus.channel(ch);
     let indirect = flag(c.dmap, 0x40);
-    let rewound = with_channel(m.core, ch, DmaChannel { a2a: c.a1t, ..c });
-    let r = read_table(rewound, low, high, rom, ch);
-    if r.byte == 0 {
-        let ended = HdmaChannelState {
-            counter: 0,
-            transfer: false,
-            finished: true,
-        };
-        let dma = set_hdma(m.dma, ch, ended, 7);
-        return DmaCore { core: r.core, dma };
-    }
-    let started = HdmaChannelState {
-        counter: r.byte,
-        transfer: true,
-        finished: false,
+    bus.set_channel(ch, DmaChannel { a2a: c.a1t, ..c });
+    let counter = read_table(bus, ch);
+    let h = HdmaChannelState {
+        counter,
+        transfer: counter != 0,
+        finished: counter == 0,
     };
-    if indirect {
-        let core = load_das(r.core, low, high, rom, ch);
-        let dma = set_hdma(m.dma, ch, started, 23);
-        return DmaCore { core, dma };
+    if (counter != 0) & indirect {
+        load_das(bus, ch);
+        set_hdma(dma, ch, h, 23);
+    } else {
+        set_hdma(dma, ch, h, 7);
     }
-    let dma = set_hdma(m.dma, ch, started, 7);
-    DmaCore { core: r.core, dma }
 }

@@ -18,7 +18,7 @@ use Rattle.dma.proofs.OneByte.{channel-moves, moves}
 use Rattle.entry.specs.{Entry.written, Slot.write_slot}
 use Rattle.fields.specs.{Bytes.byte_at, Little.le, Little.span, Patch.patched}
 use Rattle.hdma.specs.Engine.{with_wait, with_progress}
-use Rattle.hdma.specs.declared.engine.DmaCore.{DmaCore}
+use Rattle.hdma.specs.Engine.{DmaCore}
 use Rattle.image.specs.{Encode.enc_olds, Encode.encode, Groups.byte, Groups.flag}
 use Rattle.layout.specs.Layout as the
 use Rattle.layout.specs.Layout.{num, entry_size}

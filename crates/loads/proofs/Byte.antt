@@ -22,7 +22,7 @@ use Rattle.dma.specs.General.{after_byte, on_banks}
 use Rattle.fullsnes.proofs.{Count.less, Patterns.offset, Patterns.unit-length}
 use Rattle.fullsnes.specs.Said.{pattern_of}
 use Rattle.hdma.specs.Engine.{at}
-use Rattle.hdma.specs.declared.engine.DmaCore.{DmaCore}
+use Rattle.hdma.specs.Engine.{DmaCore}
 use Rattle.registers.specs.Channel.{no_channel}
 use Rattle.registers.specs.Groups.{with_dma_channel_a1t, with_dma_channel_das, with_enables_mdmaen}
 use Rattle.registers.specs.declared.{Enables.Enables, channel.DmaChannel.DmaChannel}

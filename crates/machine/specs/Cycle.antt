@@ -8,7 +8,7 @@ use Rattle.registers.specs.declared.Io.{Io}
 use Rattle.signals.specs.Flags.{nmi_line}
 use Rattle.state.specs.declared.{Board.Board, Dma.Dma, Machine.Machine}
 use Rattle.machine.specs.Event.{settled, timed, is_frame}
-use Rattle.machine.specs.declared.{cycle.Turn.Turn, event.Event.Event}
+use Rattle.machine.specs.declared.event.Event.{Event}
 
 -- with HDMAEN not 0 a line due makes a pass pending, and a frame's start one that initialises; a frame's start inside a pass has the
 -- channels that are left in its queue initialise
@@ -33,10 +33,6 @@ pub record Turned : Type 0 where
 -- the machine that a cycle leaves
 abbrev pub machine_after : Turned → Machine
 machine_after t = record { io = t.after.world.core.io; dma = t.after.dma; board = t.board }
-
--- these of the code's values
-abbrev pub turning : Turn → List ℕ → List ℕ → Turned
-turning r l h = record { after = at (world r.core l h) r.dma; board = r.board; held = r.held; edge = r.edge }
 
 -- the registers after buttons, event and automatic joypad
 abbrev pub settled_of : Machine → Event → Io

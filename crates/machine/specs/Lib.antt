@@ -3,3 +3,4 @@ pub mod Event
 pub mod Cycle
 pub mod Plain
 pub mod PowerOn
+pub mod Lent

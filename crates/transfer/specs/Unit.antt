@@ -3,13 +3,12 @@ use Rattle.std.specs.Prelude.{ℕ, zero, suc, ◌+◌, ◌%◌, Bool, List}
 use Rattle.common.specs.Pick.{pick}
 use Rattle.common.specs.declared.snes_address.SnesAddress.{SnesAddress}
 use Rattle.bus.specs.View.{channel_of, with_channel, with_core}
-use Rattle.bus.specs.World.{World, world}
+use Rattle.bus.specs.World.{World}
 use Rattle.bus.specs.declared.access.Core.{Core}
 use Rattle.registers.specs.Groups.{with_dma_channel_a2a, with_dma_channel_das}
 use Rattle.registers.specs.declared.channel.DmaChannel.{DmaChannel}
 use Rattle.transfer.specs.Byte.{trip_of, moved}
 use Rattle.transfer.specs.Pattern.{offset_of, unit_len, b_address}
-use Rattle.transfer.specs.declared.unit.Sent.{Sent}
 
 -- byte i, at a given A address; DMAP and BBAD are those from before the unit
 unfoldable pub unit_byte : List ℕ → DmaChannel → ℕ → ℕ → ℕ → World → World
@@ -34,10 +33,6 @@ source_stored k ch ind addr =
 pub record SentUnit : Type 0 where
   pub world : World
   pub bytes : ℕ
-
--- these of the code's values
-abbrev pub sending : Sent → List ℕ → List ℕ → SentUnit
-sending s l h = record { world = world s.core l h; bytes = s.bytes }
 
 -- a unit from an address
 abbrev pub unit_from : List ℕ → DmaChannel → SnesAddress → World → ℕ → Bool → SentUnit

@@ -1,12 +1,11 @@
 // One byte moved, and the byte of a general transfer.
 ghost use Rattle.std.specs.Prelude.{◌≡◌};
-ghost use Rattle.bus.specs.World.{world};
+ghost use Rattle.bus.specs.Lent.{world_on, holding, on_core};
 ghost use Rattle.transfer.specs.Byte.{trip_of, moved, next_a1t, step_a1t, transfer_byte};
 
 use crate::bits::flag;
 use crate::pattern::{b_address, offset};
-use bus::access::{Core, read, write};
-use bus::view::{channel_of, with_channel};
+use bus::bus::Bus;
 use common::snes_address::SnesAddress;
 use registers::channel::DmaChannel;
 
@@ -45,18 +44,11 @@ pub fn trip_of(dmap: u8, abank: u8, aaddr: u16, baddr: u16) -> Trip
 
 // Read, then written.
 #[tactic(auto, unfolding(crate::specs::Byte::moved))]
-pub fn move_byte(core: Core, low: &mut [u8], high: &mut [u8], rom: &[u8], trip: Trip) -> Core
-    ensures { world result low.new high.new ≡ moved rom.now (world core low.old high.old) trip }
+pub fn move_byte(bus: &mut Bus<'_, '_>, trip: Trip)
+    ensures { bus.new ≡ holding bus.old (moved bus.old.rom.now (world_on bus.old) trip) }
 {
-    let r = read(core, low, high, rom, trip.source.bank, trip.source.addr);
-    write(
-        r.core,
-        low,
-        high,
-        trip.target.bank,
-        trip.target.addr,
-        r.byte,
-    )
+    let byte = bus.read(trip.source);
+    bus.write(trip.target, byte);
 }
 
 // A1T steps inside its bank: bit 3 of DMAP holds it, else bit 4 takes it down.
@@ -73,29 +65,21 @@ pub fn next_a1t(dmap: u8, a1t: u16) -> u16
 }
 
 #[tactic(auto, unfolding(crate::specs::Byte::step_a1t))]
-fn step_a1t(core: Core, ch: u8, dmap: u8) -> Core
-    ensures { result ≡ step_a1t core ch dmap }
+fn step_a1t(bus: &mut Bus<'_, '_>, ch: u8, dmap: u8)
+    ensures { bus.new ≡ on_core bus.old (step_a1t bus.old.core ch dmap) }
 {
-    let c = channel_of(core, ch);
+    let c = bus.channel(ch);
     let a1t = next_a1t(dmap, c.a1t);
-    with_channel(core, ch, DmaChannel { a1t, ..c })
+    bus.set_channel(ch, DmaChannel { a1t, ..c });
 }
 
 // A byte of a general transfer: the bus first, then A1T as the bus left it.
 #[tactic(auto, unfolding(crate::specs::Byte::transfer_byte))]
-pub fn transfer_byte(
-    core: Core,
-    low: &mut [u8],
-    high: &mut [u8],
-    rom: &[u8],
-    ch: u8,
-    unit: u32,
-) -> Core
-    ensures { world result low.new high.new ≡ transfer_byte rom.now (world core low.old high.old) ch unit }
+pub fn transfer_byte(bus: &mut Bus<'_, '_>, ch: u8, unit: u32)
+    ensures { bus.new ≡ holding bus.old (transfer_byte bus.old.rom.now (world_on bus.old) ch unit) }
 {
-    let c = channel_of(core, ch);
+    let c = bus.channel(ch);
     let b = b_address(c.bbad, offset(c.dmap, unit));
-    let trip = trip_of(c.dmap, c.a1b, c.a1t, b);
-    let k = move_byte(core, low, high, rom, trip);
-    step_a1t(k, ch, c.dmap)
+    move_byte(bus, trip_of(c.dmap, c.a1b, c.a1t, b));
+    step_a1t(bus, ch, c.dmap);
 }

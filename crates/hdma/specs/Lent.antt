@@ -1,0 +1,25 @@
+-- The DMA unit beside the bus as the code lends both.
+use Rattle.bus.specs.Lent.{world_on, holding, on_core}
+use Rattle.bus.specs.declared.bus.Bus.{Bus}
+use Rattle.state.specs.declared.Dma.{Dma}
+use Rattle.hdma.specs.Engine.{DmaCore, DmaWorld, at}
+
+-- a bus and a DMA unit
+pub record Unit : Type 0 where
+  pub bus : Bus
+  pub dma : Dma
+
+abbrev pub unit : Bus → Dma → Unit
+unit b d = record { bus = b; dma = d }
+
+-- what stands on them
+abbrev pub unit_on : Bus → Dma → DmaWorld
+unit_on b d = at (world_on b) d
+
+-- the same bus with this left on it, and the DMA unit
+abbrev pub left_on : Bus → DmaWorld → Unit
+left_on b m = unit (holding b m.world) m.dma
+
+-- the same bus with these registers, and the DMA unit
+abbrev pub core_on : Bus → DmaCore → Unit
+core_on b m = unit (on_core b m.core) m.dma

@@ -1,5 +1,6 @@
 -- The table of refusals (document 01; 13 and 14 are document 02's): the number of each, and 0 where nothing refuses.
-use Rattle.std.specs.Prelude.{ℕ, [], ◌∷◌}
+use Rattle.std.specs.Prelude.{ℕ, List, [], ◌∷◌}
+use denote.Ref.{Bor}
 use Rattle.common.specs.Table.{at, find}
 use Rattle.std.specs.declared.option.Option.{Option}
 use Rattle.std.specs.declared.option.Option.TheVariants.{None, Some}
@@ -33,6 +34,11 @@ number_of (Some r) = refusal_number r
 abbrev pub result_number : {T : Type 0} → Result T Refusal → ℕ
 result_number (Ok x) = 0
 result_number (Err e) = refusal_number e
+
+-- the bytes of a part that was asked for; a refusal has none
+abbrev pub result_bytes : Result (Bor (List ℕ)) Refusal → List ℕ
+result_bytes (Ok s) = s.now
+result_bytes (Err e) = []
 
 -- the refusal of a number
 abbrev pub refusal_of : ℕ → Option Refusal

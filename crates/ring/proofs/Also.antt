@@ -6,6 +6,9 @@ use native.Mathlib.Omega.{arith}
 use borrow.Author.Tests.{ne_eqb}
 use lib.Dec.{eqb}
 use Rattle.common.specs.Pick.{pick}
+use Rattle.common.proofs.RefusalLaws.{refusal_number-ne0}
+use Rattle.common.specs.Refusal.{refusal_number}
+use Rattle.common.specs.declared.refusal.Refusal.{Refusal}
 use Rattle.ring.specs.Refusal.{also_of, cycle_number, port_number, address_number, back_number}
 use Rattle.ring.specs.declared.Bench.{Bench}
 
@@ -39,3 +42,19 @@ pub back-also : (lent kept : ℕ) (ok : Bool) → back_number lent kept ok ≡ a
 unfolding back_number
 back-also zero kept ok = refl
 back-also (suc n) kept ok = simp (not_0 n, same)
+
+-- a refusal is a number that is not 0, so where `lent` refuses, its number is the call's
+pub refuses : (r : Refusal) → eqb (refusal_number r) 0 ≡ false
+refuses r = ne_eqb (refusal_number r) 0 (refusal_number-ne0 r)
+
+pub cycle-first : (r : Refusal) (b : Bench) (event : ℕ) → refusal_number r ≡ cycle_number (refusal_number r) b event
+cycle-first r b event = rw (cycle-also (refusal_number r) b event, refuses r) refl
+
+pub port-first : (r : Refusal) (port : ℕ) → refusal_number r ≡ port_number (refusal_number r) port
+port-first r port = rw (port-also (refusal_number r) port, refuses r) refl
+
+pub address-first : (r : Refusal) (addr : ℕ) → refusal_number r ≡ address_number (refusal_number r) addr
+address-first r addr = rw (address-also (refusal_number r) addr, refuses r) refl
+
+pub back-first : (r : Refusal) (kept : ℕ) (ok : Bool) → refusal_number r ≡ back_number (refusal_number r) kept ok
+back-first r kept ok = rw (back-also (refusal_number r) kept ok, refuses r) refl

@@ -48,10 +48,10 @@ module _ {who : Who} (written read state held : ℕ) where
   share_hdma e p q = cc
 
 -- an operation's share
-pub share-joined : (who : Who) (held : Bool) (after : DmaState) (log : Log) {w n r state : ℕ} {s : Share} → w ≡ writes (accesses_of log) → n ≡ min log.count 11
-    → r ≡ n - w → state ≡ state_number after → s ≡ share_by who w r state (bool_byte held) → s ≡ share_of (made_by who held after log)
+pub share-joined : (who : Who) (held : Bool) (after : DmaState) (log : Log) {w r state : ℕ} {s : Share} → w ≡ writes (accesses_of log)
+    → r ≡ min log.count 11 - w → state ≡ state_number after → s ≡ share_by who w r state (bool_byte held) → s ≡ share_of (made_by who held after log)
 unfolding share_of
-share-joined who held after log p q e f g =
+share-joined who held after log p e f g =
     let l = length-firsts (min log.count 11) log.items in cc
 
 -- a count that goes on still lends the same slices

@@ -1,2 +1,3 @@
 pub mod Join
+pub mod Looked
 pub mod Accepted

@@ -2,7 +2,11 @@
 -- false flags, zero numbers and no access, and alters nothing that was lent.
 use Rattle.std.specs.Prelude.{ℕ, ◌-◌, Bool, false, List, [], ◌∷◌, eqb, length}
 use Rattle.common.specs.Pick.{pick}
+use Rattle.common.specs.Refusal.{refusal_number}
 use Rattle.common.specs.Table.{Entry, at, find}
+use Rattle.common.specs.declared.refusal.Refusal.{Refusal}
+use Rattle.std.specs.declared.result.Result.{Result}
+use Rattle.std.specs.declared.result.Result.TheVariants.{Ok, Err}
 use Rattle.bus.specs.{Access.no_log, Access.opened, Route.cost_of}
 use Rattle.bus.specs.World.{World, Reading, read_at, write_at}
 use Rattle.bus.specs.declared.access.Log.{Log}
@@ -18,7 +22,7 @@ use Rattle.wram.specs.declared.Olds.{Olds}
 use Rattle.bench.specs.Host.{with_io, pad_set, plug_set, answer_set}
 use Rattle.ring.specs.Refusal.{lent_number, cycle_number, port_number, address_number, back_number, fresh_number}
 use Rattle.ring.specs.Slots.{before, bench, Noted, noting, noted}
-use Rattle.bench.specs.declared.operate.{Answer.Answer, CycleAnswer.CycleAnswer, ReadAnswer.ReadAnswer}
+use Rattle.bench.specs.declared.operate.{CycleAnswer.CycleAnswer, ReadAnswer.ReadAnswer}
 use Rattle.ring.specs.declared.Bench.{Bench}
 use Rattle.bench.specs.declared.operate.WriteAnswer.{WriteAnswer}
 
@@ -59,8 +63,10 @@ pub record CycleOut : Type 0 where
   pub log : Log
   pub desk : Desk
 
-abbrev pub cycle_out : CycleAnswer → List ℕ → List ℕ → List ℕ → CycleOut
-cycle_out r l h e = record { number = r.number; held = r.held; edge = r.edge; log = r.log; desk = desk r.bench l h e }
+-- beside the machine given, which a refusal leaves
+abbrev pub cycle_out : Bench → Result CycleAnswer Refusal → List ℕ → List ℕ → List ℕ → CycleOut
+cycle_out b (Ok r) l h e = record { number = 0; held = r.held; edge = r.edge; log = r.log; desk = desk r.bench l h e }
+cycle_out b (Err x) l h e = record { number = refusal_number x; held = false; edge = false; log = no_log; desk = desk b l h e }
 
 -- the machine of a turn, as the code has it
 abbrev pub machine_of : Turn → Machine
@@ -103,8 +109,9 @@ pub record ReadOut : Type 0 where
   pub cost : ℕ
   pub desk : Desk
 
-abbrev pub read_out : ReadAnswer → List ℕ → List ℕ → List ℕ → ReadOut
-read_out r l h e = record { number = r.number; byte = r.byte; cost = r.cost; desk = desk r.bench l h e }
+abbrev pub read_out : Bench → Result ReadAnswer Refusal → List ℕ → List ℕ → List ℕ → ReadOut
+read_out b (Ok r) l h e = record { number = 0; byte = r.byte; cost = r.cost; desk = desk r.bench l h e }
+read_out b (Err x) l h e = record { number = refusal_number x; byte = 0; cost = 0; desk = desk b l h e }
 
 -- an accepted read
 abbrev pub read_done : Desk → Reading → ℕ → ReadOut
@@ -121,8 +128,9 @@ pub record WriteOut : Type 0 where
   pub cost : ℕ
   pub desk : Desk
 
-abbrev pub write_out : WriteAnswer → List ℕ → List ℕ → List ℕ → WriteOut
-write_out r l h e = record { number = r.number; cost = r.cost; desk = desk r.bench l h e }
+abbrev pub write_out : Bench → Result WriteAnswer Refusal → List ℕ → List ℕ → List ℕ → WriteOut
+write_out b (Ok r) l h e = record { number = 0; cost = r.cost; desk = desk r.bench l h e }
+write_out b (Err x) l h e = record { number = refusal_number x; cost = 0; desk = desk b l h e }
 
 unfoldable pub write_call : List ℕ → Desk → ℕ → ℕ → ℕ → WriteOut
 write_call rom d bank addr byte =
@@ -137,16 +145,14 @@ pub record PlainOut : Type 0 where
   pub number : ℕ
   pub desk : Desk
 
-abbrev pub plain_out : Answer → List ℕ → List ℕ → List ℕ → PlainOut
-plain_out r l h e = record { number = r.number; desk = desk r.bench l h e }
+abbrev pub plain_out : Bench → Result Bench Refusal → List ℕ → List ℕ → List ℕ → PlainOut
+plain_out b (Ok r) l h e = record { number = 0; desk = desk r l h e }
+plain_out b (Err x) l h e = record { number = refusal_number x; desk = desk b l h e }
 
 -- the same with the banks left out
 pub record Hosting : Type 0 where
   pub number : ℕ
   pub noted : Noted
-
-abbrev pub hosting : Answer → List ℕ → Hosting
-hosting r e = record { number = r.number; noted = noting r.bench e }
 
 -- an accepted change writes one entry, with no old bytes, and leaves the sum as it was
 unfoldable pub hosted : Bench → List ℕ → ℕ → Machine → Hosting
@@ -198,8 +204,17 @@ empty_bench room bitcycles sum = bench (power_on_machine bitcycles) 0 0 room sum
 abbrev pub no_bench : Bench
 no_bench = empty_bench 0 1 0
 
+-- what a fresh gives
+pub record FreshOut : Type 0 where
+  pub number : ℕ
+  pub bench : Bench
+
+abbrev pub fresh_out : Result Bench Refusal → FreshOut
+fresh_out (Ok b) = record { number = 0; bench = b }
+fresh_out (Err x) = record { number = refusal_number x; bench = no_bench }
+
 -- both banks are looked at: their lengths, then their sum
-unfoldable pub fresh_call : (low high : List ℕ) → (room bitcycles : ℕ) → Answer
+unfoldable pub fresh_call : (low high : List ℕ) → (room bitcycles : ℕ) → FreshOut
 fresh_call low high room bitcycles =
     let n = fresh_number (length low) (length high) room bitcycles in
     pick (eqb n 0) (record { number = 0; bench = empty_bench room bitcycles (ram_sum (banks low high)) }) (record { number = n; bench = no_bench })

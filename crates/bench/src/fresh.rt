@@ -1,27 +1,26 @@
 // A machine at power-on with an empty record.
 ghost use Rattle.std.specs.Prelude.{◌≡◌};
-ghost use Rattle.bench.specs.Calls.{empty_bench, no_bench, fresh_call};
+ghost use Rattle.bench.specs.Calls.{empty_bench, no_bench, fresh_out, fresh_call};
 
-use crate::operate::Answer;
+use common::refusal::Refusal;
 use machine::power_on::power_on_machine;
 use ring::Bench;
-use ring::refusal::fresh_number;
+use ring::refusal::fresh_allowed;
 use wram::sum::ram_sum;
 
 fn empty_bench(length: usize, bitcycles: u16, sum: u32) -> Bench
     ensures { result ≡ empty_bench length bitcycles sum }
 {
-    let m = power_on_machine(bitcycles);
     Bench {
-        machine: m,
+        machine: power_on_machine(bitcycles),
         slot: 0,
         kept: 0,
-        length: length,
-        sum: sum,
+        length,
+        sum,
     }
 }
 
-// What a refused fresh has.
+// What stands where fresh was refused.
 pub fn no_bench() -> Bench
     ensures { result ≡ no_bench }
 {
@@ -29,21 +28,9 @@ pub fn no_bench() -> Bench
 }
 
 // The banks are only looked at, and added up once.
-pub fn fresh(low: &[u8], high: &[u8], length: usize, bitcycles: u16) -> Answer
-    ensures { result ≡ fresh_call low.now high.now length bitcycles }
+pub fn fresh(low: &[u8], high: &[u8], length: usize, bitcycles: u16) -> Result<Bench, Refusal>
+    ensures { fresh_out result ≡ fresh_call low.now high.now length bitcycles }
 {
-    let n = fresh_number(low.len(), high.len(), length, bitcycles);
-    if n != 0 {
-        let b = no_bench();
-        return Answer {
-            number: n,
-            bench: b,
-        };
-    }
-    let sum = ram_sum(low, high);
-    let b = empty_bench(length, bitcycles, sum);
-    Answer {
-        number: 0,
-        bench: b,
-    }
+    fresh_allowed(low.len(), high.len(), length, bitcycles)?;
+    Ok(empty_bench(length, bitcycles, ram_sum(low, high)))
 }

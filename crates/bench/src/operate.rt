@@ -1,21 +1,23 @@
-// The six operations: cycle, read, write, pad, plug and port answer.
+// The six operations: cycle, read, write, pad, plug and port answer. A refused one leaves all that was lent as it was.
 ghost use Rattle.std.specs.Prelude.{◌≡◌};
-ghost use Rattle.bench.specs.Calls.{desk, event_of, machine_of, hosting, hosted, cycle_out, cycle_call, read_out, read_call, write_out, write_call, plain_out, pad_call, plug_call, answer_call};
+ghost use Rattle.bench.specs.Calls.{desk, event_of, machine_of, cycle_out, cycle_call, read_out, read_call, write_out, write_call, plain_out, pad_call, plug_call, answer_call};
+ghost use Rattle.ring.specs.Slots.{noting, noted};
+ghost use Rattle.wram.specs.Olds.{no_olds};
 
 use crate::host::{set_answer, set_pad, set_plug, with_io};
-use bus::access::{Log, no_log, opened_core};
+use bus::access::{Log, opened_core};
+use common::refusal::Refusal;
 use machine::cycle::Turn;
 use machine::event::Event;
 use ring::Bench;
-use ring::refusal::{address_number, cycle_number, lent_number, port_number};
+use ring::refusal::{address_allowed, cycle_allowed, lent, port_allowed};
 use ring::slots::note;
 use state::Machine;
 use wram::sum::sum_after;
 
-// `number` is 0 where the call was accepted, else document 01's refusal.
+// What an accepted cycle gives.
 #[derive(Clone, Copy)]
 pub struct CycleAnswer {
-    pub number: u8,
     pub bench: Bench,
     pub held: bool,
     pub edge: bool,
@@ -24,7 +26,6 @@ pub struct CycleAnswer {
 
 #[derive(Clone, Copy)]
 pub struct ReadAnswer {
-    pub number: u8,
     pub bench: Bench,
     pub byte: u8,
     pub cost: u8,
@@ -32,15 +33,8 @@ pub struct ReadAnswer {
 
 #[derive(Clone, Copy)]
 pub struct WriteAnswer {
-    pub number: u8,
     pub bench: Bench,
     pub cost: u8,
-}
-
-#[derive(Clone, Copy)]
-pub struct Answer {
-    pub number: u8,
-    pub bench: Bench,
 }
 
 // Document 01's numbers for the events.
@@ -59,14 +53,10 @@ fn event_of(event: u8) -> Event
 fn machine_of(t: Turn) -> Machine
     ensures { result ≡ machine_of t }
 {
-    let k = t.core;
-    let io = k.io;
-    let dma = t.dma;
-    let board = t.board;
     Machine {
-        io: io,
-        dma: dma,
-        board: board,
+        io: t.core.io,
+        dma: t.dma,
+        board: t.board,
     }
 }
 
@@ -80,37 +70,21 @@ pub fn cycle(
     event: u8,
     line: bool,
     timer: bool,
-) -> CycleAnswer
-    ensures { cycle_out result low.new high.new entries.new ≡ cycle_call rom.now (desk b low.old high.old entries.old) event line timer }
+) -> Result<CycleAnswer, Refusal>
+    ensures { cycle_out b result low.new high.new entries.new ≡ cycle_call rom.now (desk b low.old high.old entries.old) event line timer }
 {
-    let lent = lent_number(b, low.len(), high.len(), entries.len(), rom.len());
-    let n = cycle_number(lent, b, event);
-    if n != 0 {
-        let log = no_log();
-        return CycleAnswer {
-            number: n,
-            bench: b,
-            held: false,
-            edge: false,
-            log: log,
-        };
-    }
-    let m = b.machine;
+    lent(b, low.len(), high.len(), entries.len(), rom.len())?;
+    cycle_allowed(b, event)?;
     let e = event_of(event);
-    let t = machine::cycle::cycle(m, low, high, rom, e, line, timer);
-    let next = machine_of(t);
-    let k = t.core;
-    let log = k.log;
-    let olds = k.olds;
-    let sum = sum_after(b.sum, low, high, olds);
-    let b2 = note(b, entries, next, olds, sum);
-    CycleAnswer {
-        number: 0,
-        bench: b2,
+    let t = machine::cycle::cycle(b.machine, low, high, rom, e, line, timer);
+    let sum = sum_after(b.sum, low, high, t.core.olds);
+    let bench = note(b, entries, machine_of(t), t.core.olds, sum);
+    Ok(CycleAnswer {
+        bench,
         held: t.held,
         edge: t.edge,
-        log: log,
-    }
+        log: t.core.log,
+    })
 }
 
 // A byte from the bus, and its cost.
@@ -122,35 +96,20 @@ pub fn read(
     rom: &[u8],
     bank: u8,
     addr: u16,
-) -> ReadAnswer
-    ensures { read_out result low.new high.new entries.new ≡ read_call rom.now (desk b low.old high.old entries.old) bank addr }
+) -> Result<ReadAnswer, Refusal>
+    ensures { read_out b result low.new high.new entries.new ≡ read_call rom.now (desk b low.old high.old entries.old) bank addr }
 {
-    let n = lent_number(b, low.len(), high.len(), entries.len(), rom.len());
-    if n != 0 {
-        return ReadAnswer {
-            number: n,
-            bench: b,
-            byte: 0,
-            cost: 0,
-        };
-    }
-    let m = b.machine;
-    let io = m.io;
-    let core = opened_core(io);
-    let r = bus::access::read(core, low, high, rom, bank, addr);
-    let k = r.core;
-    let io2 = k.io;
-    let olds = k.olds;
-    let next = with_io(m, io2);
-    let sum = sum_after(b.sum, low, high, olds);
-    let b2 = note(b, entries, next, olds, sum);
-    let cost = bus::speed::cost(io.enables.memsel, bank, addr);
-    ReadAnswer {
-        number: 0,
-        bench: b2,
+    lent(b, low.len(), high.len(), entries.len(), rom.len())?;
+    let io = b.machine.io;
+    let r = bus::access::read(opened_core(io), low, high, rom, bank, addr);
+    let sum = sum_after(b.sum, low, high, r.core.olds);
+    let next = with_io(b.machine, r.core.io);
+    let bench = note(b, entries, next, r.core.olds, sum);
+    Ok(ReadAnswer {
+        bench,
         byte: r.byte,
-        cost: cost,
-    }
+        cost: bus::speed::cost(io.enables.memsel, bank, addr),
+    })
 }
 
 // A byte to the bus, and its cost.
@@ -163,50 +122,26 @@ pub fn write(
     bank: u8,
     addr: u16,
     byte: u8,
-) -> WriteAnswer
-    ensures { write_out result low.new high.new entries.new ≡ write_call rom.now (desk b low.old high.old entries.old) bank addr byte }
+) -> Result<WriteAnswer, Refusal>
+    ensures { write_out b result low.new high.new entries.new ≡ write_call rom.now (desk b low.old high.old entries.old) bank addr byte }
 {
-    let n = lent_number(b, low.len(), high.len(), entries.len(), rom.len());
-    if n != 0 {
-        return WriteAnswer {
-            number: n,
-            bench: b,
-            cost: 0,
-        };
-    }
-    let m = b.machine;
-    let io = m.io;
-    let core = opened_core(io);
-    let k = bus::access::write(core, low, high, bank, addr, byte);
-    let io2 = k.io;
-    let olds = k.olds;
-    let next = with_io(m, io2);
-    let sum = sum_after(b.sum, low, high, olds);
-    let b2 = note(b, entries, next, olds, sum);
-    let cost = bus::speed::cost(io.enables.memsel, bank, addr);
-    WriteAnswer {
-        number: 0,
-        bench: b2,
-        cost: cost,
-    }
+    lent(b, low.len(), high.len(), entries.len(), rom.len())?;
+    let io = b.machine.io;
+    let core = bus::access::write(opened_core(io), low, high, bank, addr, byte);
+    let sum = sum_after(b.sum, low, high, core.olds);
+    let next = with_io(b.machine, core.io);
+    let bench = note(b, entries, next, core.olds, sum);
+    Ok(WriteAnswer {
+        bench,
+        cost: bus::speed::cost(io.enables.memsel, bank, addr),
+    })
 }
 
 // What pad, plug and port answer share: the machine is changed by value, and no work RAM is written.
-fn host(b: Bench, entries: &mut [u8], number: u8, next: Machine) -> Answer
-    ensures { hosting result entries.new ≡ hosted b entries.old number next }
+fn host(b: Bench, entries: &mut [u8], next: Machine) -> Bench
+    ensures { noting result entries.new ≡ noted b entries.old next no_olds b.sum }
 {
-    if number != 0 {
-        return Answer {
-            number: number,
-            bench: b,
-        };
-    }
-    let olds = wram::no_olds();
-    let b2 = note(b, entries, next, olds, b.sum);
-    Answer {
-        number: 0,
-        bench: b2,
-    }
+    note(b, entries, next, wram::no_olds(), b.sum)
 }
 
 // The pad word of a controller port.
@@ -218,14 +153,12 @@ pub fn pad(
     rom: &[u8],
     port: u8,
     word: u16,
-) -> Answer
-    ensures { plain_out result low.new high.new entries.new ≡ pad_call rom.now (desk b low.old high.old entries.old) port word }
+) -> Result<Bench, Refusal>
+    ensures { plain_out b result low.new high.new entries.new ≡ pad_call rom.now (desk b low.old high.old entries.old) port word }
 {
-    let lent = lent_number(b, low.len(), high.len(), entries.len(), rom.len());
-    let n = port_number(lent, port);
-    let m = b.machine;
-    let next = set_pad(m, port, word);
-    host(b, entries, n, next)
+    lent(b, low.len(), high.len(), entries.len(), rom.len())?;
+    port_allowed(port)?;
+    Ok(host(b, entries, set_pad(b.machine, port, word)))
 }
 
 // A pad plugged into a controller port, or pulled.
@@ -237,14 +170,12 @@ pub fn plug(
     rom: &[u8],
     port: u8,
     on: bool,
-) -> Answer
-    ensures { plain_out result low.new high.new entries.new ≡ plug_call rom.now (desk b low.old high.old entries.old) port on }
+) -> Result<Bench, Refusal>
+    ensures { plain_out b result low.new high.new entries.new ≡ plug_call rom.now (desk b low.old high.old entries.old) port on }
 {
-    let lent = lent_number(b, low.len(), high.len(), entries.len(), rom.len());
-    let n = port_number(lent, port);
-    let m = b.machine;
-    let next = set_plug(m, port, on);
-    host(b, entries, n, next)
+    lent(b, low.len(), high.len(), entries.len(), rom.len())?;
+    port_allowed(port)?;
+    Ok(host(b, entries, set_plug(b.machine, port, on)))
 }
 
 // What the PPU or the APU answers at an address from now on.
@@ -256,12 +187,10 @@ pub fn port_answer(
     rom: &[u8],
     addr: u16,
     byte: u8,
-) -> Answer
-    ensures { plain_out result low.new high.new entries.new ≡ answer_call rom.now (desk b low.old high.old entries.old) addr byte }
+) -> Result<Bench, Refusal>
+    ensures { plain_out b result low.new high.new entries.new ≡ answer_call rom.now (desk b low.old high.old entries.old) addr byte }
 {
-    let lent = lent_number(b, low.len(), high.len(), entries.len(), rom.len());
-    let n = address_number(lent, addr);
-    let m = b.machine;
-    let next = set_answer(m, addr, byte);
-    host(b, entries, n, next)
+    lent(b, low.len(), high.len(), entries.len(), rom.len())?;
+    address_allowed(addr)?;
+    Ok(host(b, entries, set_answer(b.machine, addr, byte)))
 }

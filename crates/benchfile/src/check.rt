@@ -1,9 +1,11 @@
 // File check: whether a lent file is a bench file, down to the form of its last row.
 ghost use Rattle.std.specs.Prelude.{◌≡◌};
+ghost use Rattle.common.specs.Refusal.{result_number};
 ghost use Rattle.benchfile.specs.File.{adjoin, chained, sized, script_formed, sound, file_check};
 
 use crate::contents::{body, end, size, start};
 use crate::row::formed;
+use common::refusal::Refusal;
 use fields::part::part;
 
 // One section starts where another ends.
@@ -66,9 +68,13 @@ fn is_sound(file: &[u8]) -> bool
     (32 <= n) & (n <= 65536) & in_order(file) & right_sizes(file) & rows_formed(script)
 }
 
-// 0 for a bench file, else 11.
-pub fn file_check(file: &[u8]) -> u8
-    ensures { result ≡ file_check file.now }
+// 11 where the file is no bench file.
+pub fn file_check(file: &[u8]) -> Result<(), Refusal>
+    ensures { result_number result ≡ file_check file.now }
 {
-    if is_sound(file) { 0 } else { 11 }
+    if is_sound(file) {
+        Ok(())
+    } else {
+        Err(Refusal::BenchFile)
+    }
 }

@@ -1,8 +1,10 @@
-// Document 01's table of refusals. A number is 0 where nothing refuses; tests go in number order.
+// Document 01's table of refusals. Tests go in number order; each call makes `lent`'s first, then its own.
 ghost use Rattle.std.specs.Prelude.{◌≡◌};
-ghost use Rattle.ring.specs.Refusal.{banks_off, record_off, rom_off, bench_off, lent_number, also_of, cycle_number, port_number, address_number, back_number, fresh_number, look_number};
+ghost use Rattle.common.specs.Refusal.{result_number};
+ghost use Rattle.ring.specs.Refusal.{banks_off, record_off, rom_off, bench_off, lent_number, cycle_number, port_number, address_number, back_number, fresh_number, look_number};
 
 use crate::Bench;
+use common::refusal::Refusal;
 use layout::{ENTRY_SIZE, capacity};
 use ranges::machine::machine_ok;
 
@@ -38,102 +40,102 @@ fn bench_off(b: Bench) -> bool
 }
 
 // What every operation tests. Back takes no ROM and gives 0 for its length, so that 3 never comes of it.
-pub fn lent_number(b: Bench, low: usize, high: usize, length: usize, rom: usize) -> u8
-    ensures { result ≡ lent_number b low high length rom }
+#[tactic(auto, unfolding(crate::specs::Refusal::lent_number))]
+pub fn lent(b: Bench, low: usize, high: usize, length: usize, rom: usize) -> Result<(), Refusal>
+    ensures { result_number result ≡ lent_number b low high length rom }
 {
     if banks_off(low, high) {
-        return 1;
+        return Err(Refusal::Banks);
     }
     if record_off(length, b.length) {
-        return 2;
+        return Err(Refusal::Record);
     }
     if rom_off(rom) {
-        return 3;
+        return Err(Refusal::Rom);
     }
     if bench_off(b) {
-        return 4;
+        return Err(Refusal::Machine);
     }
-    0
-}
-
-// The first number that is not 0.
-fn also(first: u8, second: u8) -> u8
-    ensures { result ≡ also_of first second }
-{
-    if first == 0 { second } else { first }
+    Ok(())
 }
 
 // A cycle also tests its event, and the clock's end.
-pub fn cycle_number(lent: u8, b: Bench, event: u8) -> u8
-    ensures { result ≡ cycle_number lent b event }
+#[tactic(auto, unfolding(crate::specs::Refusal::cycle_number))]
+pub fn cycle_allowed(b: Bench, event: u8) -> Result<(), Refusal>
+    ensures { result_number result ≡ cycle_number 0 b event }
 {
     if 4 < event {
-        return also(lent, 5);
+        return Err(Refusal::Event);
     }
-    if b.machine.board.clock == 18446744073709551615 {
-        return also(lent, 7);
+    if b.machine.board.clock == u64::MAX {
+        return Err(Refusal::ClockEnd);
     }
-    lent
+    Ok(())
 }
 
 // pad and plug also test their controller port.
-pub fn port_number(lent: u8, port: u8) -> u8
-    ensures { result ≡ port_number lent port }
+#[tactic(auto, unfolding(crate::specs::Refusal::port_number))]
+pub fn port_allowed(port: u8) -> Result<(), Refusal>
+    ensures { result_number result ≡ port_number 0 port }
 {
     if 1 < port {
-        return also(lent, 6);
+        return Err(Refusal::Port);
     }
-    lent
+    Ok(())
 }
 
 // A port answer also tests its address: one of the PPU's twelve or the APU's four.
-pub fn address_number(lent: u8, addr: u16) -> u8
-    ensures { result ≡ address_number lent addr }
+#[tactic(auto, unfolding(crate::specs::Refusal::address_number))]
+pub fn address_allowed(addr: u16) -> Result<(), Refusal>
+    ensures { result_number result ≡ address_number 0 addr }
 {
     if (addr < 0x2134) | (0x2143 < addr) {
-        return also(lent, 6);
+        return Err(Refusal::Port);
     }
-    lent
+    Ok(())
 }
 
 // Back also tests that something is kept, and the newest entry.
-pub fn back_number(lent: u8, kept: usize, ok: bool) -> u8
-    ensures { result ≡ back_number lent kept ok }
+#[tactic(auto, unfolding(crate::specs::Refusal::back_number))]
+pub fn back_allowed(kept: usize, ok: bool) -> Result<(), Refusal>
+    ensures { result_number result ≡ back_number 0 kept ok }
 {
     if kept == 0 {
-        return also(lent, 8);
+        return Err(Refusal::NothingKept);
     }
-    if ok {
-        return lent;
+    if !ok {
+        return Err(Refusal::Entry);
     }
-    also(lent, 9)
+    Ok(())
 }
 
 // fresh tests both banks, the first two parts of 2, then 10.
-pub fn fresh_number(low: usize, high: usize, length: usize, bitcycles: u16) -> u8
-    ensures { result ≡ fresh_number low high length bitcycles }
+#[tactic(auto, unfolding(crate::specs::Refusal::fresh_number))]
+pub fn fresh_allowed(low: usize, high: usize, length: usize, bitcycles: u16) -> Result<(), Refusal>
+    ensures { result_number result ≡ fresh_number low high length bitcycles }
 {
     if banks_off(low, high) {
-        return 1;
+        return Err(Refusal::Banks);
     }
     if (length == 0) | (length % ENTRY_SIZE != 0) {
-        return 2;
+        return Err(Refusal::Record);
     }
     if (bitcycles == 0) | (4096 < bitcycles) {
-        return 10;
+        return Err(Refusal::BitCycles);
     }
-    0
+    Ok(())
 }
 
 // A page look tests both banks, then its page.
-pub fn look_number(low: usize, high: usize, page: u16) -> u8
-    ensures { result ≡ look_number low high page }
+#[tactic(auto, unfolding(crate::specs::Refusal::look_number))]
+pub fn look_allowed(low: usize, high: usize, page: u16) -> Result<(), Refusal>
+    ensures { result_number result ≡ look_number low high page }
 {
     if banks_off(low, high) {
-        return 1;
+        return Err(Refusal::Banks);
     }
     if 511 < page {
-        return 12;
+        return Err(Refusal::Page);
     }
-    0
+    Ok(())
 }

@@ -1,10 +1,15 @@
-use Rattle.bench.proofs.{Join.back-refused, Join.back_done}
-use borrow.Author.Tests.{eq-eqb, ne_eqb}
+use mathlib.Core.Path.{refl}
+use Rattle.bench.proofs.Join.{passed, back-refused, back_done}
+use Rattle.ring.proofs.Also.{back-first}
 use Rattle.bench.proofs.back.back.Goals as goal
 
-pub returns-then-n-ne0 : goal.returns-then-n-ne0
-returns-then-n-ne0 c = back-refused _ c.lent_number-lent.ensures c.capacity-cap.ensures c.slot_before-slot.ensures c.read_entry-newest.ensures c.back_number-n.ensures (ne_eqb _ _ c.if-n-ne0.true)
+pub returns-in_err-lent : goal.returns-in_err-lent
+returns-in_err-lent c = rw (passed _ c.from_residual.ensures) (back-refused _ c.in_err-lent.ensures refl refl refl _ (back-first _ _ _))
+
+pub returns-in_err-back_allowed : goal.returns-in_err-back_allowed
+returns-in_err-back_allowed c =
+    rw (passed _ c.from_residual-in_err-back_allowed.ensures) (back-refused _ c.in_ok-lent.ensures c.capacity.ensures c.slot_before-slot.ensures c.read_entry-newest.ensures _ c.in_err-back_allowed.ensures)
 
 pub returns : goal.returns
 returns c =
-    back_done _ c.lent_number-lent.ensures c.capacity-cap.ensures c.slot_before-slot.ensures c.read_entry-newest.ensures c.back_number-n.ensures (eq-eqb _ _ c.if-n-ne0.false) c.less_kept-kept.ensures c.sum_before-sum.ensures c.put_back.ensures
+    back_done _ c.in_ok-lent.ensures c.capacity.ensures c.slot_before-slot.ensures c.read_entry-newest.ensures c.in_ok-back_allowed.ensures c.less_kept.ensures c.sum_before-sum.ensures c.put_back.ensures

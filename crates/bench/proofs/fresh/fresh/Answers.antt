@@ -1,9 +1,8 @@
-use Rattle.bench.proofs.{Join.fresh-refused, Join.fresh-done}
-use borrow.Author.Tests.{eq-eqb, ne_eqb}
+use Rattle.bench.proofs.Join.{passed, fresh-refused, fresh-done}
 use Rattle.bench.proofs.fresh.fresh.Goals as goal
 
-pub returns-then-n-ne0 : goal.returns-then-n-ne0
-returns-then-n-ne0 c = fresh-refused _ _ _ _ c.fresh_number-n.ensures (ne_eqb _ _ c.if-n-ne0.true) c.no_bench-b.ensures
+pub returns-in_err-fresh_allowed : goal.returns-in_err-fresh_allowed
+returns-in_err-fresh_allowed c = rw (passed _ c.from_residual.ensures) (fresh-refused _ _ _ _ _ c.in_err-fresh_allowed.ensures)
 
 pub returns : goal.returns
-returns c = fresh-done _ _ _ _ c.fresh_number-n.ensures (eq-eqb _ _ c.if-n-ne0.false) c.ram_sum-sum.ensures c.empty_bench-b.ensures
+returns c = fresh-done _ _ _ _ c.in_ok-fresh_allowed.ensures c.ram_sum.ensures c.empty_bench.ensures

@@ -1,10 +1,14 @@
-use Rattle.bench.proofs.{Join.cycle-refused, Join.cycle-done}
-use borrow.Author.Tests.{eq-eqb, ne_eqb}
+use Rattle.bench.proofs.Join.{passed, cycle-refused, cycle-done}
+use Rattle.ring.proofs.Also.{cycle-first}
 use Rattle.bench.proofs.operate.cycle.Goals as goal
 
-pub returns-then-n-ne0 : goal.returns-then-n-ne0
-returns-then-n-ne0 c = cycle-refused _ _ c.lent_number-lent.ensures _ _ _ c.cycle_number-n.ensures (ne_eqb _ _ c.if-n-ne0.true) c.no_log-log.ensures
+pub returns-in_err-lent : goal.returns-in_err-lent
+returns-in_err-lent c = rw (passed _ c.from_residual.ensures) (cycle-refused _ _ c.in_err-lent.ensures _ _ _ _ (cycle-first _ _ _))
+
+pub returns-in_err-cycle_allowed : goal.returns-in_err-cycle_allowed
+returns-in_err-cycle_allowed c =
+    rw (passed _ c.from_residual-in_err-cycle_allowed.ensures) (cycle-refused _ _ c.in_ok-lent.ensures _ _ _ _ c.in_err-cycle_allowed.ensures)
 
 pub returns : goal.returns
 returns c =
-    cycle-done _ _ c.lent_number-lent.ensures _ _ _ c.cycle_number-n.ensures (eq-eqb _ _ c.if-n-ne0.false) c.event_of-e.ensures c.cycle-t.ensures c.machine_of-next.ensures c.sum_after-sum.ensures c.note-b2.ensures
+    cycle-done _ _ c.in_ok-lent.ensures _ _ _ c.in_ok-cycle_allowed.ensures c.event_of-e.ensures c.cycle-t.ensures c.machine_of.ensures c.sum_after-sum.ensures c.note-bench.ensures

@@ -1,10 +1,9 @@
-use Rattle.bench.proofs.{Join.read-refused, Join.read_done_lem}
-use borrow.Author.Tests.{eq-eqb, ne_eqb}
+use Rattle.bench.proofs.Join.{passed, read-refused, read_done_lem}
 use Rattle.bench.proofs.operate.read.Goals as goal
 
-pub returns-then-n-ne0 : goal.returns-then-n-ne0
-returns-then-n-ne0 c = read-refused _ _ c.lent_number-n.ensures _ _ (ne_eqb _ _ c.if-n-ne0.true)
+pub returns-in_err-lent : goal.returns-in_err-lent
+returns-in_err-lent c = rw (passed _ c.from_residual.ensures) (read-refused _ _ _ _ _ c.in_err-lent.ensures)
 
 pub returns : goal.returns
 returns c =
-    read_done_lem _ _ c.lent_number-n.ensures _ _ (eq-eqb _ _ c.if-n-ne0.false) c.opened_core-core.ensures c.read-r.ensures c.with_io-next.ensures c.sum_after-sum.ensures c.note-b2.ensures c.cost-cost.ensures
+    read_done_lem _ _ _ _ c.in_ok-lent.ensures c.opened_core.ensures c.read-r.ensures c.with_io-next.ensures c.sum_after-sum.ensures c.note-bench.ensures c.cost.ensures

@@ -2,7 +2,8 @@
 use Prim.Native.Nat.{ℕ, ◌+◌, ◌/◌, ◌%◌}
 use mathlib.Core.Bool.{Bool, true, false, ◌&&◌, not}
 use mathlib.Core.List.{List, [], ◌∷◌}
-use mathlib.Core.Path.{◌≡◌, sym}
+use mathlib.Core.Path.{◌≡◌, sym, ap, ◌∙◌}
+use native.Mathlib.Numerals.{add-one}
 use denote.Enum.Declared.{tag_of}
 use types.Run.{OneOf, miss}
 use lib.Dec.{leb, eqb, ltb}
@@ -17,9 +18,9 @@ use Rattle.listing.specs.{Cycle.cycle_text, Line.access_text}
 use Rattle.listing.specs.Event.{back_text, refused_text, end_text}
 use Rattle.state.specs.declared.Machine.{Machine}
 use Rattle.touch.specs.{Reach.reach_of, declared.reach.Reach.Reach, declared.who.Who.TheVariants.Cpu}
-use Rattle.walk.specs.{Step.Stepping, Step.step_of, declared.call.Answer.Answer, declared.stand.Stand.Stand}
-use Rattle.moves.specs.Origin.{origin_of, noted}
-use Rattle.moves.specs.Steps.{Running, listed, stepped}
+use Rattle.walk.specs.{declared.call.Answer.Answer, declared.stand.Stand.Stand}
+use Rattle.moves.specs.Steps.{Running, keeping, stepped, steps}
+use Rattle.moves.specs.declared.steps.Run.{Run}
 use Rattle.moves.specs.Text.{access, cpu_text, returned_text, step_text}
 
 -- the access of a row, or its refusal
@@ -81,31 +82,12 @@ module _ (s : Sheet) (row only : ℕ) (m : Machine) (o : Answer) (x : Stand) (cl
   lines_other (Back count) h p = absurd (miss others 6 tt h)
   lines_other Broken h p = p
 
--- a call with its lines
-pub list-joined : (rom script : List ℕ) (only row : ℕ) (w : Running) {s : Stepping} {here origin : ℕ} {origins : List ℕ} {u : Sheet} → s ≡ step_of rom script w.stand w.desk
-    → here ≡ origin_of row w.stand.done
-    → origins ≡ noted w.origins w.desk.bench.slot here (eqb s.made.answer.number 0 && not s.made.answer.back)
-    → origin ≡ get_or origins s.made.desk.bench.slot 0
-    → u ≡ puts w.sheet (step_text row only w.desk.bench.machine s.says s.made.answer s.stand s.made.desk.bench.machine.board.clock origin)
-    → ◌≡◌ {A = Running} (record { desk = s.made.desk; origins = origins; stand = s.next; number = s.made.answer.number; sheet = u }) (listed rom script only row w)
-unfolding listed
-list-joined rom script only row w a b c d e = cc
+-- a run that goes on still lends the same slices
+pub then_kept : (a b c : Run) → b ≡ keeping a b → c ≡ keeping b c → c ≡ keeping a c
+then_kept a b c e f = f ∙ ap (λ (w : Run). keeping w c) e
 
-module _ (rom script : List ℕ) (only : ℕ) (w : Running) where
-  pub step-none : leb (length script / 8) w.stand.next ≡ true → w ≡ stepped rom script only w
-  unfolding stepped
-  step-none a = cc
-
-  module _ (a : leb (length script / 8) w.stand.next ≡ false) where
-    pub step-refused : eqb w.number 0 ≡ false → w ≡ stepped rom script only w
-    unfolding stepped
-    step-refused b = cc
-
-    module _ (b : eqb w.number 0 ≡ true) {t : Bool} (c : t ≡ leb (w.sheet.at + 2048) (length w.sheet.text)) where
-      pub step-full : t ≡ false → w ≡ stepped rom script only w
-      unfolding stepped
-      step-full e = cc
-
-      pub step-goes : t ≡ true → {x : Running} → x ≡ listed rom script only (w.stand.next + 1) w → x ≡ stepped rom script only w
-      unfolding stepped
-      step-goes e p = cc
+-- one step more
+pub steps_more : {rom lent : List ℕ} (script : List ℕ) (only i : ℕ) (t : Running) {u v : Running} → u ≡ steps rom script only i t → lent ≡ rom
+    → v ≡ stepped lent script only u → v ≡ steps rom script only (i + 1) t
+unfolding steps
+steps_more script only i t h r k = rw (add-one i) cc

@@ -2,7 +2,8 @@
 use Rattle.std.specs.Prelude.{ℕ, zero, suc, ◌+◌, ◌/◌, ◌&&◌, not, List, leb, eqb, length, get_or}
 use Rattle.common.specs.Pick.{pick}
 use Rattle.append.specs.Sheet.{Sheet, sheet, puts}
-use Rattle.bench.specs.Calls.{Desk, desk}
+use Rattle.bench.specs.Calls.{Desk}
+use Rattle.script.specs.Rig.{desk_of, holding}
 use Rattle.walk.specs.Step.{Stepping, step_of}
 use Rattle.walk.specs.declared.stand.Stand.{Stand}
 use Rattle.moves.specs.{Origin.origin_of, Origin.noted, Text.step_text}
@@ -16,9 +17,13 @@ pub record Running : Type 0 where
   pub number : ℕ
   pub sheet : Sheet
 
--- the same, of what the code returns and the slices lent to it
-abbrev pub running : Run → List ℕ → List ℕ → List ℕ → List ℕ → List ℕ → Running
-running w l h e o out = record { desk = desk w.bench l h e; origins = o; stand = w.stand; number = w.number; sheet = sheet out w.used }
+-- the same, of what the code has
+abbrev pub running : Run → List ℕ → Running
+running w o = record { desk = desk_of w.rig; origins = o; stand = w.stand; number = w.number; sheet = sheet w.out.now w.used }
+
+-- the same slices lent, with what another has in them
+abbrev pub keeping : Run → Run → Run
+keeping w v = record v { rig = holding w.rig (desk_of v.rig); out = record w.out { now = v.out.now } }
 
 -- the origins with an accepted operation noted; a back step is none
 abbrev pub origins_by : ℕ → Running → Stepping → List ℕ

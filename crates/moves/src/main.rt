@@ -9,6 +9,7 @@ mod write;
 use fields::part::part;
 use input::complaint::{refused, say, unwritten};
 use input::{argument_count, place_given, read_bench};
+use script::rig::Rig;
 use start::begin;
 use steps::Run;
 use walk::stand::Stand;
@@ -26,31 +27,25 @@ fn show(rt: HostRuntime, file: &[u8], only: u32) {
         refused(rt, b"moves", 0, s.number);
         return;
     }
-    let b = s.bench;
-    let first = Run {
-        bench: b,
+    let mut w = Run {
+        rig: Rig {
+            bench: s.bench,
+            low: &mut low,
+            high: &mut high,
+            entries: &mut entries,
+            rom: part(file, s.rom.at, s.rom.size),
+        },
         stand: Stand {
             next: 0,
             done: 0,
             held: 0,
         },
         number: 0,
+        out: &mut out,
         used: 0,
     };
-    let rom = part(file, s.rom.at, s.rom.size);
     let script = part(file, s.script.at, s.script.size);
-    if let Err(error) = write_script(
-        &rt,
-        first,
-        &mut low,
-        &mut high,
-        &mut entries,
-        &mut origins,
-        rom,
-        script,
-        &mut out,
-        only,
-    ) {
+    if let Err(error) = write_script(&rt, &mut w, &mut origins, script, only) {
         unwritten(rt, b"moves: standard output", error);
     }
 }

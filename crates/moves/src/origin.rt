@@ -25,8 +25,5 @@ pub fn note(origins: &mut [u32], slot: usize, origin: u32, counts: bool)
 pub fn origin_at(origins: &[u32], slot: usize) -> u32
     ensures { result ≡ get_or origins.now slot 0 }
 {
-    if slot < origins.len() {
-        return origins[slot];
-    }
-    0
+    origins.get(slot).copied().unwrap_or(0)
 }

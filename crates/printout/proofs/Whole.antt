@@ -10,8 +10,7 @@ use lib.ListN.{length}
 use borrow.Author.Tests.{leb-true, leb-false, le-leb, lt-leb, eq-eqb, ne_eqb}
 use Rattle.common.proofs.TableLaws.{pick_elim}
 use Rattle.common.specs.Pick.{pick}
-use Rattle.ring.specs.declared.Bench.{Bench}
-use Rattle.bench.specs.Calls.{desk}
+use Rattle.bench.specs.Calls.{Desk, desk}
 use Rattle.benchfile.specs.{File.body_of, File.file_check, Row.row_bytes, Row.row_of}
 use Rattle.script.specs.{Run.Running, Row.row_run}
 use Rattle.append.specs.Sheet.{sheet, puts, shown_of}
@@ -63,10 +62,10 @@ module _ (rom script : List ℕ) (show : Show) where
   steps-kept (suc n) s = kept_by (steps rom script show n s) _ _ _ refl refl refl ∙ steps-kept n s
 
   -- what a call of run_rows leaves in the buffer, followed by what is still to be printed, is the text of the rows from `first` on
-  pub part-text : (b : Bench) (l h e : List ℕ) (first : ℕ) (out : List ℕ) (n : ℕ)
-      → lines_from rom script show (length script / 8 - first) first (desk b l h e) ≡ whole_of rom script show (steps rom script show n (start b l h e first out))
+  pub part-text : (d : Desk) (first : ℕ) (out : List ℕ) (n : ℕ)
+      → lines_from rom script show (length script / 8 - first) first d ≡ whole_of rom script show (steps rom script show n (start d first out))
   unfolding whole_of
-  part-text b l h e first out n = sym (steps-kept n (start b l h e first out))
+  part-text d first out n = sym (steps-kept n (start d first out))
 
   -- a step never goes back, and goes on where a row is left, none was refused and its line has room
   onward-by : (s : Standing) (a b c : Bool) → leb (length script / 8) s.next ≡ a → eqb s.number 0 ≡ b

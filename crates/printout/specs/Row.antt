@@ -3,7 +3,7 @@ use Rattle.std.specs.Prelude.{ℕ, List, []}
 use Rattle.bench.specs.Calls.{Desk}
 use Rattle.fields.specs.Bytes.{byte_at}
 use Rattle.benchfile.specs.Row.{row_of}
-use Rattle.script.specs.{Run.Running, Run.ran, Row.row_run}
+use Rattle.script.specs.{Run.Running, Run.ran, Row.row_run, declared.rig.Rig.Rig}
 use Rattle.append.specs.Sheet.{Sheet, sheet, puts}
 use Rattle.wording.specs.Line.{line_text, sum_text}
 use Rattle.printout.specs.declared.{row.Lined.Lined, row.Show.Show, row.Show.TheVariants.Nothing, row.Show.TheVariants.Line, row.Show.TheVariants.Sum}
@@ -13,9 +13,9 @@ pub record Shown : Type 0 where
   pub ran : Running
   pub out : Sheet
 
--- the same, of what the code returns and the slices lent to it
-abbrev pub shown : Lined → List ℕ → List ℕ → List ℕ → List ℕ → Shown
-shown r l h e out = record { ran = ran r.ran l h e; out = sheet out r.used }
+-- the same, of what the code returns, what it ran on and the buffer
+abbrev pub shown : Lined → Rig → List ℕ → Shown
+shown r g out = record { ran = ran r.ran g; out = sheet out r.used }
 
 -- nothing for a page, a line for a trace, the sum beside the machine for the sums
 unfoldable pub shown_text : Show → (row kind number a b sum : ℕ) → List ℕ

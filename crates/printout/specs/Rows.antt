@@ -1,10 +1,10 @@
 -- Rows of a script one by one: the trace "stops after a refusal"; a step is made only where a line of 105 bytes has room.
 use Rattle.std.specs.Prelude.{ℕ, zero, suc, ◌+◌, ◌/◌, List, leb, eqb, length}
 use Rattle.common.specs.Pick.{pick}
-use Rattle.ring.specs.declared.Bench.{Bench}
-use Rattle.bench.specs.Calls.{Desk, desk}
+use Rattle.bench.specs.Calls.{Desk}
 use Rattle.benchfile.specs.Row.{row_bytes}
 use Rattle.append.specs.Sheet.{Sheet, sheet}
+use Rattle.script.specs.{Rig.desk_of, declared.rig.Rig.Rig}
 use Rattle.printout.specs.{Row.Shown, Row.row_shown, declared.row.Show.Show, declared.rows.Stand.Stand}
 
 -- where a script stands: what is lent, the row to run next, the refusal of the last one or 0, the buffer
@@ -14,13 +14,13 @@ pub record Standing : Type 0 where
   pub number : ℕ
   pub out : Sheet
 
--- the same, of what the code returns and the slices lent to it
-abbrev pub standing : Stand → List ℕ → List ℕ → List ℕ → List ℕ → Standing
-standing s l h e out = record { desk = desk s.bench l h e; next = s.next; number = s.number; out = sheet out s.used }
+-- the same, of what the code returns, what it ran on and the buffer
+abbrev pub standing : Stand → Rig → List ℕ → Standing
+standing s g out = record { desk = desk_of g; next = s.next; number = s.number; out = sheet out s.used }
 
 -- before row `first`, with no text yet
-abbrev pub start : Bench → List ℕ → List ℕ → List ℕ → ℕ → List ℕ → Standing
-start b l h e first out = record { desk = desk b l h e; next = first; number = 0; out = sheet out 0 }
+abbrev pub start : Desk → ℕ → List ℕ → Standing
+start d first out = record { desk = d; next = first; number = 0; out = sheet out 0 }
 
 -- behind the next row
 abbrev pub after : Standing → Shown → Standing

@@ -3,7 +3,7 @@
 use crate::row::Show;
 use crate::rows::run_rows;
 use fields::part::part;
-use ring::Bench;
+use script::rig::Rig;
 use start::begin;
 use std::io;
 use wording::line::append_line;
@@ -21,45 +21,28 @@ pub struct Written {
 }
 
 // All rows of a script. Each turn runs at least one, so as many turns as there are rows are enough.
-fn write_rows(
-    rt: &impl Print,
-    b: Bench,
-    low: &mut [u8],
-    high: &mut [u8],
-    entries: &mut [u8],
-    rom: &[u8],
-    script: &[u8],
-    show: Show,
-    out: &mut [u8],
-) -> io::Result<Written> {
+fn write_rows(rt: &impl Print, rig: &mut Rig<'_>, script: &[u8], show: Show) -> io::Result<Written> {
+    let mut out = [0u8; 4096];
     let rows = script.len() / 8;
-    let mut bench = b;
-    let mut first = 0;
-    let mut number: u8 = 0;
-    let mut going = true;
-    let mut turn = 0;
-    while (turn < rows) & going {
-        let made = turn + 1;
-        let s = run_rows(bench, low, high, entries, rom, script, first, show, out);
-        let after = s.bench;
-        write_text(rt, out, s.used)?;
-        bench = after;
-        first = s.next;
-        number = s.number;
-        going = (number == 0) & (first < rows);
-        turn = made;
+    let mut w = Written { rows: 0, number: 0 };
+    for turn in 0..rows {
+        let s = run_rows(rig, script, w.rows, show, &mut out);
+        write_text(rt, &out, s.used)?;
+        w = Written {
+            rows: s.next,
+            number: s.number,
+        };
+        if (w.number != 0) | (rows <= w.rows) {
+            break;
+        }
     }
-    Ok(Written {
-        rows: first,
-        number: number,
-    })
+    Ok(w)
 }
 
 fn write_shown(rt: &impl Print, file: &[u8], show: Show) -> io::Result<Written> {
     let mut low = [0u8; 65536];
     let mut high = [0u8; 65536];
     let mut entries = [0u8; 65536];
-    let mut out = [0u8; 4096];
     let s = begin(file, &mut low, &mut high);
     if s.number != 0 {
         return Ok(Written {
@@ -67,20 +50,14 @@ fn write_shown(rt: &impl Print, file: &[u8], show: Show) -> io::Result<Written> 
             number: s.number,
         });
     }
-    let b = s.bench;
-    let rom = part(file, s.rom.at, s.rom.size);
-    let script = part(file, s.script.at, s.script.size);
-    write_rows(
-        rt,
-        b,
-        &mut low,
-        &mut high,
-        &mut entries,
-        rom,
-        script,
-        show,
-        &mut out,
-    )
+    let mut rig = Rig {
+        bench: s.bench,
+        low: &mut low,
+        high: &mut high,
+        entries: &mut entries,
+        rom: part(file, s.rom.at, s.rom.size),
+    };
+    write_rows(rt, &mut rig, part(file, s.script.at, s.script.size), show)
 }
 
 // Document 01's line of a file that cannot be run.

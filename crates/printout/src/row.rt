@@ -1,13 +1,13 @@
 // A script row run on a bench, with what is shown of it.
 ghost use Rattle.std.specs.Prelude.{◌≡◌};
-ghost use Rattle.bench.specs.Calls.{desk};
+ghost use Rattle.script.specs.Rig.{desk_of, holding};
 ghost use Rattle.append.specs.Sheet.{sheet, puts};
 ghost use Rattle.printout.specs.Row.{shown_text, shown, row_shown};
 
 use benchfile::row::row_of;
 use fields::word::byte;
-use ring::Bench;
 use script::repeat::Ran;
+use script::rig::Rig;
 use script::row::run_row;
 use wording::line::{append_line, append_sum};
 
@@ -47,24 +47,13 @@ fn put_shown(
 }
 
 // Runs the row of these 8 bytes, the `number`th of its script.
-pub fn run_line(
-    b: Bench,
-    low: &mut [u8],
-    high: &mut [u8],
-    entries: &mut [u8],
-    rom: &[u8],
-    row: &[u8],
-    number: u64,
-    show: Show,
-    out: &mut [u8],
-    used: usize,
-) -> Lined
-    ensures { shown result low.new high.new entries.new out.new ≡ row_shown rom.now row.now number show (desk b low.old high.old entries.old) (sheet out.old used) }
+#[tactic(auto, unfolding(crate::specs::Row::row_shown))]
+pub fn run_line(rig: &mut Rig<'_>, row: &[u8], number: u64, show: Show, out: &mut [u8], used: usize) -> Lined
+    ensures same { rig.new ≡ holding rig.old (desk_of rig.new) }
+    ensures value { shown result rig.new out.new ≡ row_shown rig.old.rom.now row.now number show (desk_of rig.old) (sheet out.old used) }
 {
-    let says = row_of(row);
     let kind = byte(row, 0);
-    let r = run_row(b, low, high, entries, rom, says);
-    let after = r.bench;
-    let end = put_shown(out, used, show, number, kind, r.number, r.a, r.b, after.sum);
-    Lined { ran: r, used: end }
+    let ran = run_row(rig, row_of(row));
+    let used = put_shown(out, used, show, number, kind, ran.number, ran.a, ran.b, rig.bench.sum);
+    Lined { ran, used }
 }

@@ -1,3 +1,4 @@
 -- A script row run on a bench.
+pub mod Rig
 pub mod Run
 pub mod Row

@@ -1,8 +1,8 @@
 -- A row of several calls (document 01, "Bench file"): each is lent what the last left; the row stops at the first refusal.
 use Rattle.std.specs.Prelude.{ℕ, zero, suc, ◌+◌, ◌%◌, ◌^◌, Bool, false, List, ◌==◌}
 use Rattle.common.specs.Pick.{pick}
-use Rattle.bench.specs.Calls.{Desk, desk, CycleOut, cycle_call, PlainOut, back_call}
-use Rattle.script.specs.declared.repeat.Ran.{Ran}
+use Rattle.bench.specs.Calls.{Desk, CycleOut, cycle_call, PlainOut, back_call}
+use Rattle.script.specs.{Rig.desk_of, declared.repeat.Ran.Ran, declared.rig.Rig.Rig}
 
 -- what a row has come to: the refusal or 0, its numbers A and B, and what it leaves
 pub record Running : Type 0 where
@@ -11,9 +11,9 @@ pub record Running : Type 0 where
   pub b : ℕ
   pub desk : Desk
 
--- the same, of what the code returns and the slices lent to it
-abbrev pub ran : Ran → List ℕ → List ℕ → List ℕ → Running
-ran r l h e = record { number = r.number; a = r.a; b = r.b; desk = desk r.bench l h e }
+-- the same, of what the code returns and what it ran on
+abbrev pub ran : Ran → Rig → Running
+ran r g = record { number = r.number; a = r.a; b = r.b; desk = desk_of g }
 
 -- a row before its first call
 abbrev pub start : Desk → Running

@@ -2,4 +2,5 @@
 #![tactic(auto)]
 
 pub mod repeat;
+pub mod rig;
 pub mod row;

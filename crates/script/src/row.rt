@@ -1,24 +1,19 @@
 // One script row, by its kind.
 ghost use Rattle.std.specs.Prelude.{◌≡◌};
-ghost use Rattle.bench.specs.Calls.{desk};
+ghost use Rattle.script.specs.Rig.{desk_of, holding};
 ghost use Rattle.script.specs.Run.{ran};
 ghost use Rattle.script.specs.Row.{row_run};
 
 use crate::repeat::{Ran, run_backs, run_cycles};
+use crate::rig::Rig;
 use bench::operate::{pad, plug, port_answer, read, write};
 use benchfile::row::Row;
-use ring::Bench;
 
 // A row that breaks its form is refused by 11; in a file that passed its check there is none.
-pub fn run_row(
-    b: Bench,
-    low: &mut [u8],
-    high: &mut [u8],
-    entries: &mut [u8],
-    rom: &[u8],
-    row: Row,
-) -> Ran
-    ensures { ran result low.new high.new entries.new ≡ row_run rom.now row (desk b low.old high.old entries.old) }
+#[tactic(auto, unfolding(crate::specs::Row::row_run))]
+pub fn run_row(rig: &mut Rig<'_>, row: Row) -> Ran
+    ensures same { rig.new ≡ holding rig.old (desk_of rig.new) }
+    ensures value { ran result rig.new ≡ row_run rig.old.rom.now row (desk_of rig.old) }
 {
     match row {
         Row::Cycles {
@@ -26,63 +21,57 @@ pub fn run_row(
             event,
             due,
             timer,
-        } => run_cycles(b, low, high, entries, rom, count, event, due, timer),
+        } => run_cycles(rig, count, event, due, timer),
         Row::Read { bank, addr } => {
-            let r = read(b, low, high, entries, rom, bank, addr);
-            let after = r.bench;
+            let r = read(rig.bench, rig.low, rig.high, rig.entries, rig.rom, bank, addr);
+            rig.bench = r.bench;
             Ran {
                 number: r.number,
                 a: r.byte as u32,
                 b: r.cost as u32,
-                bench: after,
             }
         }
         Row::Write { bank, addr, byte } => {
-            let r = write(b, low, high, entries, rom, bank, addr, byte);
-            let after = r.bench;
+            let r = write(rig.bench, rig.low, rig.high, rig.entries, rig.rom, bank, addr, byte);
+            rig.bench = r.bench;
             Ran {
                 number: r.number,
                 a: 0,
                 b: r.cost as u32,
-                bench: after,
             }
         }
         Row::Pad { port, word } => {
-            let r = pad(b, low, high, entries, rom, port, word);
-            let after = r.bench;
+            let r = pad(rig.bench, rig.low, rig.high, rig.entries, rig.rom, port, word);
+            rig.bench = r.bench;
             Ran {
                 number: r.number,
                 a: 0,
                 b: 0,
-                bench: after,
             }
         }
         Row::Plug { port, on } => {
-            let r = plug(b, low, high, entries, rom, port, on);
-            let after = r.bench;
+            let r = plug(rig.bench, rig.low, rig.high, rig.entries, rig.rom, port, on);
+            rig.bench = r.bench;
             Ran {
                 number: r.number,
                 a: 0,
                 b: 0,
-                bench: after,
             }
         }
         Row::Answer { addr, byte } => {
-            let r = port_answer(b, low, high, entries, rom, addr, byte);
-            let after = r.bench;
+            let r = port_answer(rig.bench, rig.low, rig.high, rig.entries, rig.rom, addr, byte);
+            rig.bench = r.bench;
             Ran {
                 number: r.number,
                 a: 0,
                 b: 0,
-                bench: after,
             }
         }
-        Row::Back { count } => run_backs(b, low, high, entries, count),
+        Row::Back { count } => run_backs(rig, count),
         Row::Broken => Ran {
             number: 11,
             a: 0,
             b: 0,
-            bench: b,
         },
     }
 }

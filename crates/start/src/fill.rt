@@ -9,9 +9,7 @@ pub fn fill_bank(bank: &mut [u8], fill: &[u8])
     if fill.len() == 0 {
         return;
     }
-    let mut i = 0;
-    while i < bank.len() {
-        bank[i] = fill[i % fill.len()];
-        i += 1;
+    for (i, byte) in bank.iter_mut().enumerate() {
+        *byte = fill[i % fill.len()];
     }
 }

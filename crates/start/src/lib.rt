@@ -32,21 +32,18 @@ pub struct Started {
 fn section_span(file: &[u8], section: u8) -> Span
     ensures { result ≡ span_of file.now section }
 {
-    let at = start(file, section);
-    let n = size(file, section);
     Span {
-        at: at as usize,
-        size: n as usize,
+        at: start(file, section) as usize,
+        size: size(file, section) as usize,
     }
 }
 
 fn halt(number: u8) -> Started
     ensures { result ≡ halted number }
 {
-    let b = no_bench();
     Started {
-        number: number,
-        bench: b,
+        number,
+        bench: no_bench(),
         rom: Span { at: 0, size: 0 },
         script: Span { at: 0, size: 0 },
     }
@@ -63,18 +60,14 @@ pub fn begin(file: &[u8], low: &mut [u8], high: &mut [u8]) -> Started
     let fill = body(file, 1);
     fill_bank(low, fill);
     fill_bank(high, fill);
-    let settings = body(file, 0);
-    let made = fresh(low, high, 65536, two(settings, 0));
+    let made = fresh(low, high, 65536, two(body(file, 0), 0));
     if made.number != 0 {
         return halt(made.number);
     }
-    let b = made.bench;
-    let rom = section_span(file, 2);
-    let script = section_span(file, 3);
     Started {
         number: 0,
-        bench: b,
-        rom: rom,
-        script: script,
+        bench: made.bench,
+        rom: section_span(file, 2),
+        script: section_span(file, 3),
     }
 }

@@ -1,5 +1,5 @@
 -- The parts of a count, joined into its definitions.
-use Rattle.std.proofs.Common.{◌≡◌, ℕ, ◌+◌, ◌-◌, ◌%◌, ◌^◌, min, Bool, true, false, eqb, List, [], ◌∷◌, get_or, set, refl}
+use Rattle.std.proofs.Common.{◌≡◌, ℕ, ◌+◌, ◌-◌, ◌%◌, ◌^◌, min, Bool, true, false, eqb, List, [], ◌∷◌, get_or, set, refl, ap, ◌∙◌, add-one}
 use denote.Enum.Declared.{tag_of}
 use types.Run.{OneOf, miss}
 use mir.Val.{bool_byte}
@@ -16,47 +16,14 @@ use Rattle.state.specs.declared.{Dma.Dma, DmaState.DmaState}
 use Rattle.touch.specs.Who.{who_of}
 use Rattle.touch.specs.declared.who.Who.{Who}
 use Rattle.touch.specs.declared.who.Who.TheVariants.{Cpu, Dma as General, Hdma}
-use Rattle.script.proofs.Join.{slices_of}
-use Rattle.walk.proofs.Join.{others}
-use Rattle.walk.specs.Call.{Calling, call_of}
 use Rattle.tally.specs.Alive.{latest_of, Rows, rows, noted}
 use Rattle.tally.specs.Figure.{writes, state_number}
 use Rattle.tally.specs.File.{row_by, FileRun, file_ran, first, file_run, file_counting, file_count}
-use Rattle.tally.specs.Run.{Tallying, count_in, count_by, refused_by, call_tallied, step_tallied, calls_tallied, calls_in, limit_of, row_tallied, script_tallied}
+use Rattle.tally.specs.Run.{Tallying, keeping, step_tallied, calls_tallied, row_tallied, rows_tallied, script_tallied}
+use Rattle.tally.specs.declared.run.Tally.{Tally}
 use Rattle.tally.specs.Share.{made_by, share, share_by, share_of, Counted, counted, count_call}
 use Rattle.tally.specs.declared.share.Share.{Share}
 use Rattle.tally.proofs.Writes.{length-firsts}
-
-pub calls-cycles : {says : Row} {count event : ℕ} {due timer : Bool} → says ≡ Cycles count event due timer → count ≡ calls_in says
-calls-cycles p = cc
-
-pub calls-other : (says : Row) → OneOf others (tag_of the_type says) → 1 ≡ calls_in says
-calls-other (Cycles count event due timer) h = absurd (miss others 0 tt h)
-calls-other (Read bank addr) h = refl
-calls-other (Write bank addr byte) h = refl
-calls-other (Pad port word) h = refl
-calls-other (Plug port on) h = refl
-calls-other (Reply addr byte) h = refl
-calls-other (Back count) h = absurd (miss others 6 tt h)
-calls-other Broken h = refl
-
-pub count-cycles : (d : Dma) (held : Bool) (after : DmaState) (log : Log) (l : List ℕ) {says : Row} {who : Who} {s : Share} {o : Counted} {count event : ℕ} {due timer : Bool}
-    → says ≡ Cycles count event due timer → who ≡ who_of d → s ≡ share_of (made_by who held after log) → o ≡ count_call l s → o ≡ count_in says d held after log l
-count-cycles d held after log l p q r v = cc
-
--- every variant but `Cycles`, by its place in the enum
-abbrev calm : List ℕ
-calm = 1 ∷ 2 ∷ 3 ∷ 4 ∷ 5 ∷ 6 ∷ 7 ∷ []
-
-pub count-other : (says : Row) (d : Dma) (held : Bool) (after : DmaState) (log : Log) (l : List ℕ) → OneOf calm (tag_of the_type says) → counted 0 l ≡ count_in says d held after log l
-count-other (Cycles count event due timer) d held after log l h = absurd (miss calm 0 tt h)
-count-other (Read bank addr) d held after log l h = refl
-count-other (Write bank addr byte) d held after log l h = refl
-count-other (Pad port word) d held after log l h = refl
-count-other (Plug port on) d held after log l h = refl
-count-other (Reply addr byte) d held after log l h = refl
-count-other (Back count) d held after log l h = refl
-count-other Broken d held after log l h = refl
 
 module _ (row : ℕ) (t : Rows) {back : Bool} where
   pub note-struck : {at n fewer : ℕ} {l : List ℕ} → back ≡ true → at ≡ latest_of t.alive t.top → n ≡ get_or t.alive at 0 → fewer ≡ n - 1
@@ -81,48 +48,26 @@ module _ {who : Who} (written read state held : ℕ) where
   share_hdma e p q = cc
 
 -- an operation's share
-pub share-joined : (who : Who) (held : Bool) (after : DmaState) (log : Log) {w n r state : ℕ} {s : Share} → w ≡ writes (accesses_of log) → n ≡ min log.count 11
-    → r ≡ n - w → state ≡ state_number after → s ≡ share_by who w r state (bool_byte held) → s ≡ share_of (made_by who held after log)
+pub share-joined : (who : Who) (held : Bool) (after : DmaState) (log : Log) {w r state : ℕ} {s : Share} → w ≡ writes (accesses_of log)
+    → r ≡ min log.count 11 - w → state ≡ state_number after → s ≡ share_by who w r state (bool_byte held) → s ≡ share_of (made_by who held after log)
 unfolding share_of
-share-joined who held after log p q e f g =
+share-joined who held after log p e f g =
     let l = length-firsts (min log.count 11) log.items in cc
 
--- an accepted call, and a refused one
-module _ (rom : List ℕ) (row : ℕ) (says : Row) (i : ℕ) (t : Tallying) where
-  pub tally_refused : {o : Calling} → o ≡ call_of rom i says t.desk → eqb o.answer.number 0 ≡ false → refused_by t o ≡ call_tallied rom row says i t
-  unfolding call_tallied
-  tally_refused p e = cc
+-- a count that goes on still lends the same slices
+pub then_kept : (a b c : Tally) → b ≡ keeping a b → c ≡ keeping b c → c ≡ keeping a c
+then_kept a b c e f = f ∙ ap (λ (t : Tally). keeping t c) e
 
-  pub tally_accepted : {o : Calling} {n : Counted} {r : Rows} → o ≡ call_of rom i says t.desk → eqb o.answer.number 0 ≡ true
-      → n ≡ count_by says t.desk o t.totals → r ≡ noted row o.answer.back t.rows
-      → ◌≡◌ {A = Tallying} (record { desk = o.desk; number = n.number; row = t.row; rows = r; totals = n.totals }) (call_tallied rom row says i t)
-  unfolding call_tallied
-  tally_accepted p e q h = cc
+-- one call more of a row, one row more
+pub calls_more : {rom lent : List ℕ} (row : ℕ) (says : Row) (i : ℕ) (t : Tallying) {u v : Tallying} → u ≡ calls_tallied rom row says i t → lent ≡ rom
+    → v ≡ step_tallied lent row says i u → v ≡ calls_tallied rom row says (i + 1) t
+unfolding calls_tallied
+calls_more row says i t h r k = rw (add-one i) cc
 
-  pub step_stopped : eqb t.number 0 ≡ false → t ≡ step_tallied rom row says i t
-  unfolding step_tallied
-  step_stopped e = cc
-
-  pub step-goes : {u : Tallying} → eqb t.number 0 ≡ true → u ≡ call_tallied rom row says i t → u ≡ step_tallied rom row says i t
-  unfolding step_tallied
-  step-goes e p = cc
-
--- a row
-module _ (rom script limits : List ℕ) (row : ℕ) (t : Tallying) where
-  pub row_stopped : eqb t.number 0 ≡ false → t ≡ row_tallied rom script limits row t
-  unfolding row_tallied
-  row_stopped e = cc
-
-  pub row_goes : {says : Row} {n next : ℕ} {u : Tallying} → eqb t.number 0 ≡ true → says ≡ row_at script row → n ≡ limit_of limits row says
-      → next ≡ (row + 1) % 2 ^ 64
-      → u ≡ calls_tallied rom row says n (record { desk = t.desk; number = 0; row = next; rows = t.rows; totals = t.totals })
-      → u ≡ row_tallied rom script limits row t
-  unfolding row_tallied
-  row_goes e p q r v = cc
-
--- what a count is lent, which keeps its lengths
-abbrev pub lent_slices : List (Tallying → List ℕ)
-lent_slices = (λ (t : Tallying). t.rows.alive) ∷ (λ (t : Tallying). t.totals) ∷ slices_of (λ (t : Tallying). t.desk)
+pub rows_more : {rom lent : List ℕ} (script limits : List ℕ) (row : ℕ) (t : Tallying) {u v : Tallying} → u ≡ rows_tallied rom script limits row t → lent ≡ rom
+    → v ≡ row_tallied lent script limits row u → v ≡ rows_tallied rom script limits (row + 1) t
+unfolding rows_tallied
+rows_more script limits row t h r k = rw (add-one row) cc
 
 -- a run of a file
 module _ (f l h e limits alive totals : List ℕ) {s : Starting} (begun : s ≡ start_run f l h) where

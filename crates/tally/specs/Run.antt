@@ -2,11 +2,12 @@
 -- where a limit is set for it, so many.
 use Rattle.std.specs.Prelude.{ℕ, zero, suc, ◌+◌, ◌/◌, ◌%◌, ◌^◌, Bool, List, length, ◌==◌, nat_lt, slice_index}
 use Rattle.common.specs.Pick.{pick}
-use Rattle.bench.specs.Calls.{Desk, desk}
+use Rattle.bench.specs.Calls.{Desk}
 use Rattle.benchfile.specs.Row.{row_at}
 use Rattle.benchfile.specs.declared.row.Row.{Row}
 use Rattle.benchfile.specs.declared.row.Row.TheVariants.{Cycles, Read, Write, Pad, Plug, Answer as Reply, Back, Broken}
 use Rattle.state.specs.declared.{Dma.Dma, DmaState.DmaState}
+use Rattle.script.specs.{Rig.desk_of, declared.rig.Rig.Rig}
 use Rattle.touch.specs.Who.{who_of}
 use Rattle.walk.specs.Call.{Calling, call_of}
 use Rattle.tally.specs.{Alive.Rows, Alive.rows, Alive.noted}
@@ -22,10 +23,13 @@ pub record Tallying : Type 0 where
   pub rows : Rows
   pub totals : List ℕ
 
--- the same, of what the code returns and the slices lent to it
-abbrev pub tallying : Tally → List ℕ → List ℕ → List ℕ → List ℕ → List ℕ → Tallying
-tallying t l h e alive totals =
-    record { desk = desk t.bench l h e; number = t.number; row = t.row; rows = rows t.top alive; totals = totals }
+-- the same, of what the code has and what it runs on
+abbrev pub tallying : Tally → Rig → Tallying
+tallying t g = record { desk = desk_of g; number = t.number; row = t.row; rows = rows t.top t.alive.now; totals = t.totals.now }
+
+-- the same slices lent, with what another has in them
+abbrev pub keeping : Tally → Tally → Tally
+keeping t u = record u { alive = record t.alive { now = u.alive.now }; totals = record t.totals { now = u.totals.now } }
 
 -- the totals with an accepted call, by the DMA unit before it: a cycle's share; every other call adds nothing
 abbrev pub count_in : Row → Dma → Bool → DmaState → Log → List ℕ → Counted

@@ -1,24 +1,15 @@
 // The totals of a run: 29 figures, in the order that they are printed in. Places that the slice does not have count for nothing.
-ghost use Rattle.std.specs.Prelude.{◌≡◌, slice_index};
+ghost use Rattle.std.specs.Prelude.{◌≡◌};
 ghost use Rattle.tally.specs.Share.{wrapped, passes, counted, count_call};
 
 use crate::share::Share;
 use totals::limit::passes_at;
 
-fn total(totals: &[u64], at: usize) -> u64
-    ensures { result ≡ slice_index totals.now at }
-{
-    if at < totals.len() {
-        return totals[at];
-    }
-    0
-}
-
 // The total would pass 2^64 - 1.
 fn over(totals: &[u64], at: usize, by: u64) -> bool
     ensures { result ≡ passes at by totals.now }
 {
-    passes_at(total(totals, at), by)
+    passes_at(totals.get(at).copied().unwrap_or(0), by)
 }
 
 // A total that would not pass 2^64 - 1 goes up.
@@ -26,8 +17,7 @@ fn raise(totals: &mut [u64], at: usize, by: u64)
     ensures { totals.new ≡ wrapped at by totals.old }
 {
     if at < totals.len() {
-        let sum = std::num::wrapping_add_u64(by, totals[at]);
-        totals[at] = sum;
+        totals[at] = by.wrapping_add(totals[at]);
     }
 }
 

@@ -4,6 +4,7 @@ ghost use Rattle.tally.specs.File.{row_by, file_ran, file_run, file_counting, fi
 
 use crate::run::{Tally, tally_script};
 use fields::part::part;
+use script::rig::Rig;
 use start::begin;
 
 // The refusal of the file or of the row that ended it, and that row's number; 0 where there is none.
@@ -20,6 +21,7 @@ fn refused_row(number: u8, row: usize) -> usize
 }
 
 // One run from fresh. `limits` says how many calls the first so many rows make.
+#[tactic(auto, unfolding(crate::specs::File::file_run))]
 fn run_file(
     file: &[u8],
     low: &mut [u8],
@@ -38,22 +40,24 @@ fn run_file(
             row: 0,
         };
     }
-    let b = s.bench;
-    let rom = part(file, s.rom.at, s.rom.size);
-    let script = part(file, s.script.at, s.script.size);
-    let first = Tally {
-        bench: b,
+    let mut rig = Rig {
+        bench: s.bench,
+        low,
+        high,
+        entries,
+        rom: part(file, s.rom.at, s.rom.size),
+    };
+    let mut t = Tally {
         number: 0,
         row: 0,
         top: 0,
+        alive,
+        totals,
     };
-    let t = tally_script(
-        first, low, high, entries, rom, script, limits, alive, totals,
-    );
-    let row = refused_row(t.number, t.row);
+    tally_script(&mut rig, &mut t, part(file, s.script.at, s.script.size), limits);
     Ran {
         number: t.number,
-        row: row,
+        row: refused_row(t.number, t.row),
     }
 }
 

@@ -1,8 +1,7 @@
 // What an operation adds to the figures.
-ghost use Rattle.std.specs.Prelude.{◌≡◌, ◌-◌, min, ◌==◌};
-ghost use Rattle.common.specs.Pick.{pick};
+ghost use Rattle.std.specs.Prelude.{◌≡◌};
 ghost use Rattle.bus.specs.Access.{accesses_of};
-ghost use Rattle.tally.specs.Figure.{writes, state_number};
+ghost use Rattle.tally.specs.Figure.{writes};
 ghost use Rattle.tally.specs.Share.{made_by, share_by, share_of};
 
 use bus::access::Log;
@@ -20,88 +19,42 @@ pub struct Share {
     pub held: u64,
 }
 
-// How many accesses a log holds: at most eleven.
-fn made(count: u8) -> u64
-    ensures { result ≡ min count 11 }
-{
-    if count < 11 { count as u64 } else { 11 }
-}
-
-// How many of them are writes.
+// How many of the accesses are writes.
 fn written(log: Log) -> u64
     ensures { result ≡ writes (accesses_of log) }
 {
-    let items = log.items;
-    let count = made(log.count);
     let mut n: u64 = 0;
-    let mut i: u64 = 0;
-    while i < count {
-        let a = items[i as usize];
-        n += a.write as u64;
-        i += 1;
+    for i in 0..log.count.min(11) {
+        n += log.items[i as usize].write as u64;
     }
     n
 }
 
-fn state_number(s: DmaState) -> u64
-    ensures { result ≡ state_number s }
-{
-    match s {
-        DmaState::Idle => 0,
-        DmaState::Startup => 1,
-        DmaState::Dma => 2,
-        DmaState::Hdma => 3,
-    }
-}
-
-// 1 where a unit went, whatever its length.
-fn some(n: u64) -> u64
-    ensures { result ≡ pick (n == 0) 0 1 }
-{
-    if n == 0 { 0 } else { 1 }
-}
-
-fn less(a: u64, b: u64) -> u64
-    ensures { result ≡ a - b }
-{
-    if a < b {
-        return 0;
-    }
-    a - b
-}
-
+// A unit counts once, whatever its length.
 fn share_by(who: Who, written: u64, read: u64, state: u64, held: u64) -> Share
     ensures { result ≡ share_by who written read state held }
 {
+    let none = Share {
+        channel: 0,
+        general: 0,
+        units: 0,
+        table: 0,
+        state,
+        held,
+    };
     match who {
-        Who::Cpu => Share {
-            channel: 0,
-            general: 0,
-            units: 0,
-            table: 0,
-            state: state,
-            held: held,
-        },
+        Who::Cpu => none,
         Who::Dma { channel } => Share {
             channel: (channel % 8) as u64,
             general: written,
-            units: 0,
-            table: 0,
-            state: state,
-            held: held,
+            ..none
         },
-        Who::Hdma { channel } => {
-            let unit = some(written);
-            let table = less(read, written);
-            Share {
-                channel: (channel % 8) as u64,
-                general: 0,
-                units: unit,
-                table: table,
-                state: state,
-                held: held,
-            }
-        }
+        Who::Hdma { channel } => Share {
+            channel: (channel % 8) as u64,
+            units: (written != 0) as u64,
+            table: read.saturating_sub(written),
+            ..none
+        },
     }
 }
 
@@ -110,8 +63,6 @@ pub fn share_of(who: Who, held: bool, after: DmaState, log: Log) -> Share
     ensures { result ≡ share_of (made_by who held after log) }
 {
     let w = written(log);
-    let n = made(log.count);
-    let read = less(n, w);
-    let state = state_number(after);
-    share_by(who, w, read, state, held as u64)
+    let read = (log.count.min(11) as u64).saturating_sub(w);
+    share_by(who, w, read, after as u64, held as u64)
 }

@@ -22,12 +22,10 @@ pub struct Added {
 pub fn none() -> Folder
     ensures { result ≡ no_files }
 {
-    let all = empty();
-    let alive = empty();
     Folder {
         files: 0,
-        all: all,
-        alive: alive,
+        all: empty(),
+        alive: empty(),
     }
 }
 
@@ -35,9 +33,7 @@ pub fn none() -> Folder
 fn refusal(f: Folder, all: Figures, alive: Figures) -> u8
     ensures { result ≡ folder_number f all.counts alive.counts }
 {
-    let over = too_much(f.all, all);
-    let above = too_much(f.alive, alive);
-    if over | above {
+    if too_much(f.all, all) | too_much(f.alive, alive) {
         return 13;
     }
     if 256 <= f.files {
@@ -52,20 +48,15 @@ pub fn add(f: Folder, all: Figures, alive: Figures) -> Added
 {
     let number = refusal(f, all, alive);
     if number != 0 {
-        return Added {
-            number: number,
-            folder: f,
-        };
+        return Added { number, folder: f };
     }
     let files = f.files + 1;
-    let a = with_file(f.all, files, all);
-    let b = with_file(f.alive, files, alive);
     Added {
         number: 0,
         folder: Folder {
-            files: files,
-            all: a,
-            alive: b,
+            files,
+            all: with_file(f.all, files, all),
+            alive: with_file(f.alive, files, alive),
         },
     }
 }

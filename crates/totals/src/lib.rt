@@ -41,11 +41,8 @@ fn too_much(c: Column, f: Figures) -> bool
     ensures { result ≡ passes c.sum f.counts }
 {
     let mut over = false;
-    let mut i: usize = 0;
-    while i < 29 {
-        let here = passes_at(c.sum[i], f.counts[i]);
-        over = over | here;
-        i += 1;
+    for i in 0..29 {
+        over |= passes_at(c.sum[i], f.counts[i]);
     }
     over
 }
@@ -56,14 +53,12 @@ fn with_file(c: Column, file: u64, f: Figures) -> Column
     ensures { result ≡ column_with c file f.counts }
 {
     let mut out = empty();
-    let mut i: usize = 0;
-    while i < 29 {
+    for i in 0..29 {
         let x = f.counts[i];
         let most = c.most[i];
         out.sum[i] = c.sum[i] + x;
         out.most[i] = larger(file, most, x);
         out.file[i] = which(file, c.file[i], most, x);
-        i += 1;
     }
     out
 }

@@ -12,12 +12,10 @@ pub struct Fraction {
 fn common(sum: u64, files: u64) -> u64
     ensures { result ≡ common_up_to sum files files }
 {
-    let mut d = files;
-    while 0 < d {
+    for d in (1..=files).rev() {
         if (sum % d == 0) & (files % d == 0) {
             return d;
         }
-        d -= 1;
     }
     1
 }

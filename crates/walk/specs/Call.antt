@@ -1,21 +1,22 @@
 -- One call of a script row (document 01, "Bench file"): a cycle, a back step, or the call of a row that is only one.
 use Rattle.std.specs.Prelude.{ℕ, Bool, true, false, List}
-use Rattle.bench.specs.Calls.{Desk, desk, CycleOut, cycle_call, PlainOut, back_call}
+use Rattle.bench.specs.Calls.{Desk, CycleOut, cycle_call, PlainOut, back_call}
 use Rattle.benchfile.specs.declared.row.Row.{Row}
 use Rattle.benchfile.specs.declared.row.Row.TheVariants.{Cycles, Read, Write, Pad, Plug, Answer as Reply, Back, Broken}
 use Rattle.bus.specs.Access.{no_log}
 use Rattle.script.specs.Row.{row_run}
 use Rattle.script.specs.Run.{Running, first_of, first_flag}
-use Rattle.walk.specs.declared.{call.Answer.Answer, call.Called.Called}
+use Rattle.script.specs.{Rig.desk_of, declared.rig.Rig.Rig}
+use Rattle.walk.specs.declared.call.Answer.{Answer}
 
 -- what a call answers and leaves
 pub record Calling : Type 0 where
   pub answer : Answer
   pub desk : Desk
 
--- the same, of what the code returns and the slices lent to it
-abbrev pub calling : Called → List ℕ → List ℕ → List ℕ → Calling
-calling r l h e = record { answer = r.answer; desk = desk r.bench l h e }
+-- the same, of what the code returns and what it ran on
+abbrev pub calling : Answer → Rig → Calling
+calling a g = record { answer = a; desk = desk_of g }
 
 -- the answer of a cycle of a row of n
 abbrev pub cycle_answer : ℕ → CycleOut → Answer

@@ -3,6 +3,7 @@ use Rattle.std.specs.Prelude.{ℕ, List}
 use Rattle.bench.specs.Calls.{Desk}
 use Rattle.benchfile.specs.Row.{row_at}
 use Rattle.benchfile.specs.declared.row.Row.{Row}
+use Rattle.script.specs.declared.rig.Rig.{Rig}
 use Rattle.walk.specs.Call.{Calling, calling, call_of}
 use Rattle.walk.specs.{Stand.counted, Stand.onward, declared.stand.Stand.Stand, declared.step.Step.Step}
 
@@ -13,9 +14,9 @@ pub record Stepping : Type 0 where
   pub stand : Stand
   pub next : Stand
 
--- the same, of what the code returns and the slices lent to it
-abbrev pub stepping : Step → List ℕ → List ℕ → List ℕ → Stepping
-stepping r l h e = record { says = r.says; made = calling r.made l h e; stand = r.stand; next = r.next }
+-- the same, of what the code returns and what it ran on
+abbrev pub stepping : Step → Rig → Stepping
+stepping r g = record { says = r.says; made = calling r.answer g; stand = r.stand; next = r.next }
 
 -- where it leads
 abbrev pub step_by : Stand → Row → Calling → Stepping

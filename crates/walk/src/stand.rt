@@ -13,35 +13,31 @@ pub struct Stand {
 fn up_by(n: u16, counts: bool) -> u16
     ensures { result ≡ up n counts }
 {
-    if counts {
-        return std::num::wrapping_add_u16(n, 1);
-    }
-    n
+    if counts { n.wrapping_add(1) } else { n }
 }
 
 // One call more, by its refusal or 0 and whether it was held. A refused call is never held.
+#[tactic(auto, unfolding(crate::specs::Stand::counted))]
 pub fn count_call(s: Stand, number: u8, held: bool) -> Stand
     ensures { result ≡ counted s number held }
 {
-    let done = up_by(s.done, number == 0);
-    let more = up_by(s.held, held);
     Stand {
         next: s.next,
-        done: done,
-        held: more,
+        done: up_by(s.done, number == 0),
+        held: up_by(s.held, held),
     }
 }
 
 // After the last of `count` calls the next row comes.
+#[tactic(auto, unfolding(crate::specs::Stand::onward))]
 pub fn go_on(s: Stand, count: u16) -> Stand
     ensures { result ≡ onward s count }
 {
     if s.done < count {
         return s;
     }
-    let next = std::num::wrapping_add_usize(s.next, 1);
     Stand {
-        next: next,
+        next: s.next.wrapping_add(1),
         done: 0,
         held: 0,
     }

@@ -1,43 +1,35 @@
 // A script one call at a time.
 ghost use Rattle.std.specs.Prelude.{◌≡◌};
-ghost use Rattle.bench.specs.Calls.{desk};
+ghost use Rattle.script.specs.Rig.{desk_of, holding};
 ghost use Rattle.walk.specs.Step.{stepping, step_of};
 
-use crate::call::{Called, call};
+use crate::call::{Answer, call};
 use crate::stand::{Stand, count_call, go_on};
 use benchfile::row::{Row, row_at};
-use ring::Bench;
+use script::rig::Rig;
 
-// A call made: its row, what it answered and left, where the script stands with it counted, and where it goes on.
+// A call made: its row, what it answered, where the script stands with it counted, and where it goes on.
 #[derive(Clone, Copy)]
 pub struct Step {
     pub says: Row,
-    pub made: Called,
+    pub answer: Answer,
     pub stand: Stand,
     pub next: Stand,
 }
 
 // The next call. Behind the last row there is none, and it is refused by 11.
-pub fn next_call(
-    b: Bench,
-    low: &mut [u8],
-    high: &mut [u8],
-    entries: &mut [u8],
-    rom: &[u8],
-    script: &[u8],
-    stand: Stand,
-) -> Step
-    ensures { stepping result low.new high.new entries.new ≡ step_of rom.now script.now stand (desk b low.old high.old entries.old) }
+#[tactic(auto, unfolding(crate::specs::Step::step_of))]
+pub fn next_call(rig: &mut Rig<'_>, script: &[u8], stand: Stand) -> Step
+    ensures same { rig.new ≡ holding rig.old (desk_of rig.new) }
+    ensures value { stepping result rig.new ≡ step_of rig.old.rom.now script.now stand (desk_of rig.old) }
 {
     let says = row_at(script, stand.next);
-    let made = call(b, low, high, entries, rom, stand.done, says);
-    let answer = made.answer;
+    let answer = call(rig, stand.done, says);
     let with = count_call(stand, answer.number, answer.held);
-    let next = go_on(with, answer.count);
     Step {
-        says: says,
-        made: made,
+        says,
+        answer,
         stand: with,
-        next: next,
+        next: go_on(with, answer.count),
     }
 }

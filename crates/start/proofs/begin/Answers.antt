@@ -8,9 +8,9 @@ returns-then-broken-ne0 c = start-broken _ _ _ c.file_check-broken.ensures (ne_e
 pub returns-then-made-ne0 : goal.returns-then-made-ne0
 returns-then-made-ne0 c =
     start-refused _ _ _ c.file_check-broken.ensures (eq-eqb _ _ c.if-broken-ne0.false) c.body-fill.ensures c.fill_bank.ensures c.fill_bank-2.ensures
-    c.body-settings.ensures c.two.ensures c.fresh-made.ensures (ne_eqb _ _ c.if-made-ne0.true) c.halt-then-made-ne0.ensures
+    c.body.ensures c.two.ensures c.fresh-made.ensures (ne_eqb _ _ c.if-made-ne0.true) c.halt-then-made-ne0.ensures
 
 pub returns : goal.returns
 returns c =
     start-goes _ _ _ c.file_check-broken.ensures (eq-eqb _ _ c.if-broken-ne0.false) c.body-fill.ensures c.fill_bank.ensures c.fill_bank-2.ensures
-    c.body-settings.ensures c.two.ensures c.fresh-made.ensures (eq-eqb _ _ c.if-made-ne0.false) c.section_span-rom.ensures c.section_span-script.ensures
+    c.body.ensures c.two.ensures c.fresh-made.ensures (eq-eqb _ _ c.if-made-ne0.false) c.section_span.ensures c.section_span-2.ensures

@@ -1,12 +1,6 @@
-use Rattle.std.proofs.Common.{◌≡◌, ◌≤◌, ◌-◌}
+use Rattle.std.proofs.Common.{◌≡◌}
 use Rattle.totals.specs.Column.{passes_in}
 use Rattle.totals.proofs.too_much.Given as goal
 
 abbrev pub invariant-loop-i : goal.invariant-loop-i
-invariant-loop-i l = record {
-  in_range : l.i ≤ 29;
-  so_far : l.over ≡ passes_in l.c.sum l.f.counts l.i;
-}
-
-abbrev pub decreases-loop-i : goal.decreases-loop-i
-decreases-loop-i l = 29 - l.i
+invariant-loop-i l = l.over ≡ passes_in l.c.sum l.f.counts l.i

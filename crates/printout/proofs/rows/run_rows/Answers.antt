@@ -1,17 +1,18 @@
-use Rattle.common.proofs.AllLaws.{◌also◌}
-use Rattle.script.proofs.Loop.{going_start, going_on, going_end}
-use Rattle.printout.specs.Rows.{stepped, steps}
-use Rattle.std.proofs.Common.{refl}
+use Rattle.std.proofs.Common.{refl, ap}
+use Rattle.script.specs.declared.rig.Rig.{Rig}
+use Rattle.script.proofs.Join.{then_same}
+use Rattle.printout.specs.Rows.{steps}
+use Rattle.printout.proofs.Join.{steps_more}
 use Rattle.printout.proofs.rows.run_rows.Goals as goal
 
 pub loop-i-init : goal.loop-i-init
 unfolding steps
-loop-i-init c = going_start refl
+loop-i-init c = record { same = refl; is = refl }
 
 pub loop-i-preserved : goal.loop-i-preserved
-unfolding steps
 loop-i-preserved c =
-    going_on c.loop-i.invariant c.loop-i-test.true (stepped _ _ _) c.step-after.ensures refl (c.step-after.auto.out also c.step-after.auto.low also c.step-after.auto.high also c.step-after.auto.entries also tt)
-
-pub returns : goal.returns
-returns c = going_end c.loop-i.invariant c.loop-i-test.false
+    let at = c.loop-i.invariant in
+    let step = c.step-s.ensures in record {
+      same = then_same c.args.rig.now _ _ at.same step.same;
+      is = steps_more _ _ _ _ at.is (ap (λ (g : Rig). g.rom.now) at.same) step.value;
+    }

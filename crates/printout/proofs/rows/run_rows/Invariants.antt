@@ -1,13 +1,10 @@
-use Rattle.script.proofs.Loop.{Going}
-use Rattle.script.proofs.Join.{slices_of}
-use Rattle.printout.specs.Rows.{Standing, standing, steps}
-use Rattle.std.proofs.Common.{◌-◌, ◌/◌, ◌∷◌, length}
+use Rattle.std.proofs.Common.{◌≡◌}
+use Rattle.script.specs.Rig.{desk_of, holding}
+use Rattle.printout.specs.Rows.{standing, start, steps}
 use Rattle.printout.proofs.rows.run_rows.Given as goal
 
 abbrev pub invariant-loop-i : goal.invariant-loop-i
-invariant-loop-i l =
-    let first = standing l.initial.s l.initial.low l.initial.high l.initial.entries l.initial.out in
-    Going ((λ (x : Standing). x.out.text) ∷ slices_of (λ (x : Standing). x.desk)) (λ k. steps l.rom l.script l.show k first) (length l.script / 8) first (standing l.s l.low l.high l.entries l.out) l.i
-
-abbrev pub decreases-loop-i : goal.decreases-loop-i
-decreases-loop-i l = length l.script / 8 - l.i
+invariant-loop-i l = record {
+  same : l.rig ≡ holding l.fn.rig (desk_of l.rig);
+  is : standing l.s l.rig l.out ≡ steps l.fn.rig.rom.now l.script l.show l.i (start (desk_of l.fn.rig) l.first l.fn.out)
+}

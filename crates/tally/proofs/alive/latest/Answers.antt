@@ -13,7 +13,7 @@ module _ (l : List ℕ) where
   passed zero h e k = absurd (omega arith)
   passed (suc i) h e k = let p : suc i - 1 ≡ i = omega arith in rw (eq-eqb (get_or l (suc i) 0) 0 (sym e ∙ k), p)
 
-  first : (i : ℕ) → i ≡ 0 → i ≡ latest_of l i
+  first : (i : ℕ) → i ≡ 0 → 0 ≡ latest_of l i
   unfolding latest_of
   first i e = rw e
 

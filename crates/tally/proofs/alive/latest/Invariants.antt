@@ -4,6 +4,3 @@ use Rattle.tally.proofs.alive.latest.Given as goal
 
 abbrev pub invariant-loop-i : goal.invariant-loop-i
 invariant-loop-i l = latest_of l.alive l.top ≡ latest_of l.alive l.i
-
-abbrev pub decreases-loop-i : goal.decreases-loop-i
-decreases-loop-i l = l.i

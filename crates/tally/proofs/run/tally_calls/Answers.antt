@@ -1,15 +1,19 @@
-use Rattle.common.proofs.AllLaws.{◌also◌}
-use Rattle.script.proofs.Loop.{going_start, going_on}
-use Rattle.tally.specs.Run.{step_tallied, calls_tallied}
-use Rattle.std.proofs.Common.{refl}
+use Rattle.std.proofs.Common.{refl, ap}
+use Rattle.script.proofs.Join.{then_same}
+use Rattle.script.specs.declared.rig.Rig.{Rig}
+use Rattle.tally.specs.Run.{calls_tallied}
+use Rattle.tally.proofs.Join.{then_kept, calls_more}
 use Rattle.tally.proofs.run.tally_calls.Goals as goal
 
 pub loop-i-init : goal.loop-i-init
 unfolding calls_tallied
-loop-i-init c = going_start refl
+loop-i-init c = record { rig = refl; lent = refl; is = refl }
 
 pub loop-i-preserved : goal.loop-i-preserved
-unfolding calls_tallied
 loop-i-preserved c =
-    let step = c.tally_step-next in
-    going_on c.loop-i.invariant c.loop-i-test.true (step_tallied _ _ _ _) step.ensures refl (step.auto.alive also step.auto.totals also step.auto.low also step.auto.high also step.auto.entries also tt)
+    let at = c.loop-i.invariant in
+    let step = c.tally_step.ensures in record {
+      rig = then_same c.args.rig.now _ _ at.rig step.rig;
+      lent = then_kept c.args.t.now _ _ at.lent step.lent;
+      is = calls_more _ _ _ _ at.is (ap (λ (g : Rig). g.rom.now) at.rig) step.value;
+    }

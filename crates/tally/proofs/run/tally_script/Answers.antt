@@ -1,15 +1,19 @@
-use Rattle.common.proofs.AllLaws.{◌also◌}
-use Rattle.script.proofs.Loop.{going_start, going_on}
-use Rattle.tally.specs.Run.{row_tallied, rows_tallied}
-use Rattle.std.proofs.Common.{refl}
+use Rattle.std.proofs.Common.{refl, ap}
+use Rattle.script.proofs.Join.{then_same}
+use Rattle.script.specs.declared.rig.Rig.{Rig}
+use Rattle.tally.specs.Run.{rows_tallied}
+use Rattle.tally.proofs.Join.{then_kept, rows_more}
 use Rattle.tally.proofs.run.tally_script.Goals as goal
 
 pub loop-row-init : goal.loop-row-init
 unfolding rows_tallied
-loop-row-init c = going_start refl
+loop-row-init c = record { rig = refl; lent = refl; is = refl }
 
 pub loop-row-preserved : goal.loop-row-preserved
-unfolding rows_tallied
 loop-row-preserved c =
-    let step = c.tally_row-next in
-    going_on c.loop-row.invariant c.loop-row-test.true (row_tallied _ _ _ _) step.ensures refl (step.auto.alive also step.auto.totals also step.auto.low also step.auto.high also step.auto.entries also tt)
+    let at = c.loop-row.invariant in
+    let step = c.tally_row.ensures in record {
+      rig = then_same c.args.rig.now _ _ at.rig step.rig;
+      lent = then_kept c.args.t.now _ _ at.lent step.lent;
+      is = rows_more _ _ _ _ at.is (ap (λ (g : Rig). g.rom.now) at.rig) step.value;
+    }

@@ -8,11 +8,11 @@ returns-then-number-ne0 c = let a = c.args in add-refused a.f a.all.counts a.ali
 pub overflow_add-files : goal.overflow_add-files
 overflow_add-files c = omega (arith, (accepted _ _ _ (sym c.refusal-number.ensures ∙ c.if-number-ne0.false)).room)
 
-pub with_file-a-requires : goal.with_file-a-requires
-with_file-a-requires c = (accepted _ _ _ (sym c.refusal-number.ensures ∙ c.if-number-ne0.false)).fits
+pub with_file-requires : goal.with_file-requires
+with_file-requires c = (accepted _ _ _ (sym c.refusal-number.ensures ∙ c.if-number-ne0.false)).fits
 
-pub with_file-b-requires : goal.with_file-b-requires
-with_file-b-requires c = (accepted _ _ _ (sym c.refusal-number.ensures ∙ c.if-number-ne0.false)).survives
+pub with_file-requires-2 : goal.with_file-requires-2
+with_file-requires-2 c = (accepted _ _ _ (sym c.refusal-number.ensures ∙ c.if-number-ne0.false)).survives
 
 pub returns : goal.returns
 returns c =
@@ -23,5 +23,5 @@ returns c =
     a.alive.counts
     c.refusal-number.ensures
     c.if-number-ne0.false
-    c.with_file-a.ensures
-    c.with_file-b.ensures
+    c.with_file.ensures
+    c.with_file-2.ensures

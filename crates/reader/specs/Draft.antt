@@ -21,6 +21,21 @@ phase_number phase.Rows = 4
 abbrev pub no_later : Phase → Phase → Bool
 no_later p q = leb (phase_number p) (phase_number q)
 
+-- kinds as numbers: those of rows are their first bytes in a bench file (document 01)
+abbrev pub kind_number : Kind → ℕ
+kind_number kind.Nothing = 0
+kind_number kind.Cycles = 1
+kind_number kind.Read = 2
+kind_number kind.Write = 3
+kind_number kind.Pad = 4
+kind_number kind.Plug = 5
+kind_number kind.Answer = 6
+kind_number kind.Back = 7
+kind_number kind.Bitcycles = 8
+kind_number kind.Fill = 9
+kind_number kind.Rom = 10
+kind_number kind.RomFile = 11
+
 -- by its fields
 abbrev pub draft : Phase → Expected → Kind → ℕ → ℕ → ℕ → ℕ → Emit → Draft
 draft p s k x₁ x₂ x₃ x₄ e =

@@ -47,11 +47,7 @@ fn to_script(out: &mut [u8], at: usize, d: Draft) -> usize
     ensures { sheet out.new result ≡ puts (sheet out.old at) (script_of d) }
 {
     match d.emit {
-        Emit::Row => put(
-            out,
-            at,
-            &[d.kind as u8, d.b1, d.b2, d.b3, d.b4, 0, 0, 0],
-        ),
+        Emit::Row => put(out, at, &[d.kind as u8, d.b1, d.b2, d.b3, d.b4, 0, 0, 0]),
         _ => at,
     }
 }

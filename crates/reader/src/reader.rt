@@ -1,6 +1,6 @@
 // One character of the text.
 ghost use Rattle.std.specs.Prelude.{◌≡◌};
-ghost use Rattle.reader.specs.Reader.{start_of, quiet_of, idle_of, shut_of, gap_of, spaced_of, naming_of, plain_of, step_of, read_of};
+ghost use Rattle.reader.specs.Reader.{reader, start_of, quiet_of, idle_of, shut_of, gap_of, spaced_of, naming_of, plain_of, step_of, read_of};
 
 use crate::draft::{Draft, has_failed};
 use crate::kinds::{Emit, Expected, Kind, Phase};
@@ -34,12 +34,16 @@ pub fn start() -> Reader
     }
 }
 
-fn quiet(d: Draft) -> Draft
-    ensures { result ≡ quiet_of d }
+// What was completed before is done with.
+fn quiet(r: Reader) -> Reader
+    ensures { result ≡ reader r.word (quiet_of r.draft) }
 {
-    Draft {
-        emit: Emit::Nothing,
-        ..d
+    Reader {
+        draft: Draft {
+            emit: Emit::Nothing,
+            ..r.draft
+        },
+        ..r
     }
 }
 
@@ -52,13 +56,13 @@ fn idle(form: Form) -> bool
 
 // The draft when the word ends.
 #[tactic(auto, unfolding(crate::specs::Reader::shut_of))]
-fn shut(w: Word, d: Draft) -> Draft
-    ensures { result ≡ shut_of w d }
+fn shut(r: Reader) -> Draft
+    ensures { result ≡ shut_of r.word r.draft }
 {
-    if idle(w.form) {
-        return d;
+    if idle(r.word.form) {
+        return r.draft;
     }
-    taken(d, meaning(w))
+    taken(r.draft, meaning(r.word))
 }
 
 // Behind `file` all up to the line's end or a comment is the name.
@@ -72,10 +76,10 @@ fn gap(expected: Expected) -> Form
 }
 
 #[tactic(auto, unfolding(crate::specs::Reader::spaced_of))]
-fn spaced(w: Word, d: Draft) -> Reader
-    ensures { result ≡ spaced_of w d }
+fn spaced(r: Reader) -> Reader
+    ensures { result ≡ spaced_of r.word r.draft }
 {
-    let draft = shut(w, d);
+    let draft = shut(r);
     Reader {
         word: blank(gap(draft.expected)),
         draft,
@@ -84,21 +88,21 @@ fn spaced(w: Word, d: Draft) -> Reader
 
 // A character of a file name.
 #[tactic(auto, unfolding(crate::specs::Reader::naming_of))]
-fn naming(w: Word, d: Draft, s: Sign) -> Reader
-    ensures { result ≡ naming_of w d s }
+fn naming(r: Reader, s: Sign) -> Reader
+    ensures { result ≡ naming_of r.word r.draft s }
 {
     match s {
         Sign::Comment => Reader {
             word: blank(Form::Comment),
-            draft: d,
+            ..r
         },
-        Sign::Space => Reader { word: w, draft: d },
+        Sign::Space => r,
         _ => Reader {
-            word: w,
             draft: Draft {
                 expected: Expected::End,
-                ..d
+                ..r.draft
             },
+            ..r
         },
     }
 }
@@ -118,24 +122,24 @@ fn plain(w: Word, s: Sign, c: u8) -> Word
 
 // A character of sign s, where nothing has failed.
 #[tactic(auto, unfolding(crate::specs::Reader::step_of))]
-fn step(w: Word, d: Draft, s: Sign, c: u8) -> Reader
-    ensures { result ≡ step_of w d s c }
+fn step(r: Reader, s: Sign, c: u8) -> Reader
+    ensures { result ≡ step_of r.word r.draft s c }
 {
-    match (s, w.form) {
+    match (s, r.word.form) {
         (Sign::LineEnd, _) => Reader {
             word: blank(Form::Between),
-            draft: line_end(shut(w, d)),
+            draft: line_end(shut(r)),
         },
-        (_, Form::Comment) => Reader { word: w, draft: d },
-        (_, Form::Name) => naming(w, d, s),
+        (_, Form::Comment) => r,
+        (_, Form::Name) => naming(r, s),
         (Sign::Comment, _) => Reader {
             word: blank(Form::Comment),
-            draft: shut(w, d),
+            draft: shut(r),
         },
-        (Sign::Space, _) => spaced(w, d),
+        (Sign::Space, _) => spaced(r),
         _ => Reader {
-            word: plain(w, s, c),
-            draft: d,
+            word: plain(r.word, s, c),
+            ..r
         },
     }
 }
@@ -148,5 +152,5 @@ pub fn read(r: Reader, c: u8) -> Reader
     if has_failed(r.draft) {
         return r;
     }
-    step(r.word, quiet(r.draft), sign(c), c)
+    step(quiet(r), sign(c), c)
 }

@@ -1,16 +1,17 @@
 -- The bench file that a text (docs/BENCH.md) says.
-use Rattle.std.specs.Prelude.{ℕ, Bool, not, ◌&&◌, List, eqb, leb, replicate}
+use Rattle.std.specs.Prelude.{ℕ, Bool, not, ◌&&◌, List, eqb, replicate}
 use Rattle.common.specs.Pick.{pick}
 use Rattle.append.specs.Sheet.{Sheet, sheet, puts, shown_of}
 use Rattle.fields.specs.Bytes.{part_of}
 use Rattle.benchfile.specs.File.{file_check}
-use Rattle.reader.specs.declared.draft.Draft.{Draft}
+use Rattle.reader.specs.{declared.draft.Draft.Draft, Draft.has_failed, Draft.no_later}
+use Rattle.reader.specs.declared.kinds.Phase.TheVariants as phase
 use Rattle.assembler.specs.Desk.{State, opened, gathered}
 use Rattle.assembler.specs.Bind.{bound}
 
 -- the text did not fail, and has settings and a fill
 unfoldable pub ready_of : Draft → Bool
-ready_of d = not (eqb d.emit 9) && leb 2 d.phase
+ready_of d = not (has_failed d) && no_later phase.Fill d.phase
 
 -- the place behind a bench file; 0 for bytes that are none
 unfoldable pub checked : List ℕ → ℕ → ℕ

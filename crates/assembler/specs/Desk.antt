@@ -1,22 +1,37 @@
 -- The bytes that a text (docs/BENCH.md) says, gathered in three buffers: settings and fill, ROM, script.
 use Rattle.std.specs.Prelude.{ℕ}
 use mathlib.Core.List.{List, [], ◌∷◌, foldl}
-use Rattle.common.specs.Table.{find, at}
 use Rattle.append.specs.Sheet.{Sheet, sheet, puts}
-use Rattle.reader.specs.{declared.draft.Draft.Draft, declared.reader.Reader.Reader, Reader.start_of, Reader.read_of}
+use Rattle.reader.specs.declared.kinds.Emit.{Emit}
+use Rattle.reader.specs.declared.kinds.Emit.TheVariants.{FillByte, Settings, Row, RomFile, RomByte}
+use Rattle.reader.specs.{Draft.kind_number, declared.draft.Draft.Draft, declared.reader.Reader.Reader, Reader.start_of, Reader.read_of}
 use Rattle.assembler.specs.declared.desk.Desk.{Desk}
+
+abbrev pub front_by : Emit → Draft → List ℕ
+front_by FillByte d = d.b1 ∷ []
+front_by Settings d = d.b1 ∷ d.b2 ∷ []
+front_by _ d = []
 
 -- what a completed word or line adds to settings and fill
 unfoldable pub front_of : Draft → List ℕ
-front_of d = find (at 1 (d.b1 ∷ []) ∷ at 2 (d.b1 ∷ d.b2 ∷ []) ∷ []) d.emit []
+front_of d = front_by d.emit d
+
+abbrev pub rom_by : Emit → List ℕ → Draft → List ℕ
+rom_by RomFile file d = file
+rom_by RomByte file d = d.b1 ∷ []
+rom_by _ file d = []
 
 -- to the ROM
 unfoldable pub rom_of : List ℕ → Draft → List ℕ
-rom_of file d = find (at 4 file ∷ at 5 (d.b1 ∷ []) ∷ []) d.emit []
+rom_of file d = rom_by d.emit file d
+
+abbrev pub script_by : Emit → Draft → List ℕ
+script_by Row d = kind_number d.kind ∷ d.b1 ∷ d.b2 ∷ d.b3 ∷ d.b4 ∷ 0 ∷ 0 ∷ 0 ∷ []
+script_by _ d = []
 
 -- and to the script
 unfoldable pub script_of : Draft → List ℕ
-script_of d = find (at 3 (d.kind ∷ d.b1 ∷ d.b2 ∷ d.b3 ∷ d.b4 ∷ 0 ∷ 0 ∷ 0 ∷ []) ∷ []) d.emit []
+script_of d = script_by d.emit d
 
 -- the reader, and the three buffers
 pub record State : Type 0 where

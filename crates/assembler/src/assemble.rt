@@ -7,14 +7,15 @@ use crate::bind::bind;
 use crate::desk::gather;
 use benchfile::check::file_check;
 use fields::part::part;
-use reader::draft::Draft;
+use reader::draft::{Draft, has_failed};
+use reader::kinds::Phase;
 
 // A text that did not fail and has settings and a fill.
 #[tactic(auto, unfolding(crate::specs::Assemble::ready_of))]
 pub fn ready(d: Draft) -> bool
     ensures { result ≡ ready_of d }
 {
-    (d.emit != 9) & (2 <= d.phase)
+    !has_failed(d) && Phase::Fill <= d.phase
 }
 
 // The place behind a bench file; 0 for bytes that are none.

@@ -5,6 +5,7 @@ ghost use Rattle.assembler.specs.Desk.{front_of, rom_of, script_of, state, stepp
 
 use append::put;
 use reader::draft::Draft;
+use reader::kinds::Emit;
 use reader::reader::{Reader, read, start};
 
 // The reader and the places behind the last byte of each buffer.
@@ -17,46 +18,38 @@ pub struct Desk {
 }
 
 // Settings, and bytes of the fill.
-#[tactic(auto, unfolding(crate::specs::Desk::front_of))]
+#[tactic(auto, unfolding(crate::specs::Desk::front_of), using(append::proofs::Laws::puts_none))]
 fn to_front(out: &mut [u8], at: usize, d: Draft) -> usize
     ensures { sheet out.new result ≡ puts (sheet out.old at) (front_of d) }
 {
-    if d.emit == 1 {
-        let t = [d.b1];
-        return put(out, at, &t);
+    match d.emit {
+        Emit::FillByte => put(out, at, &[d.b1]),
+        Emit::Settings => put(out, at, &[d.b1, d.b2]),
+        _ => at,
     }
-    if d.emit == 2 {
-        let t = [d.b1, d.b2];
-        return put(out, at, &t);
-    }
-    at
 }
 
 // Bytes of the ROM, or the lent file.
-#[tactic(auto, unfolding(crate::specs::Desk::rom_of))]
+#[tactic(auto, unfolding(crate::specs::Desk::rom_of), using(append::proofs::Laws::puts_none))]
 fn to_rom(out: &mut [u8], at: usize, d: Draft, file: &[u8]) -> usize
     ensures { sheet out.new result ≡ puts (sheet out.old at) (rom_of file.now d) }
 {
-    if d.emit == 4 {
-        return put(out, at, file);
+    match d.emit {
+        Emit::RomFile => put(out, at, file),
+        Emit::RomByte => put(out, at, &[d.b1]),
+        _ => at,
     }
-    if d.emit == 5 {
-        let t = [d.b1];
-        return put(out, at, &t);
-    }
-    at
 }
 
-// Rows.
-#[tactic(auto, unfolding(crate::specs::Desk::script_of))]
+// Rows: the number of a kind is the row's first byte in a file.
+#[tactic(auto, unfolding(crate::specs::Desk::script_of), using(append::proofs::Laws::puts_none))]
 fn to_script(out: &mut [u8], at: usize, d: Draft) -> usize
     ensures { sheet out.new result ≡ puts (sheet out.old at) (script_of d) }
 {
-    if d.emit == 3 {
-        let t = [d.kind, d.b1, d.b2, d.b3, d.b4, 0, 0, 0];
-        return put(out, at, &t);
+    match d.emit {
+        Emit::Row => put(out, at, &[d.kind as u8, d.b1, d.b2, d.b3, d.b4, 0, 0, 0]),
+        _ => at,
     }
-    at
 }
 
 // One character of the text.
@@ -64,16 +57,13 @@ fn step(k: Desk, front: &mut [u8], rom: &mut [u8], script: &mut [u8], file: &[u8
     ensures { state result front.new rom.new script.new
         ≡ stepped file.now (state k front.old rom.old script.old) c }
 {
-    let r = read(k.reader, c);
-    let d = r.draft;
-    let a = to_front(front, k.front, d);
-    let b = to_rom(rom, k.rom, d, file);
-    let s = to_script(script, k.script, d);
+    let reader = read(k.reader, c);
+    let d = reader.draft;
     Desk {
-        reader: r,
-        front: a,
-        rom: b,
-        script: s,
+        reader,
+        front: to_front(front, k.front, d),
+        rom: to_rom(rom, k.rom, d, file),
+        script: to_script(script, k.script, d),
     }
 }
 
@@ -89,13 +79,8 @@ fn run(
         ≡ runs file.now (state k front.old rom.old script.old) text.now }
 {
     let mut now = k;
-    let mut i = 0;
-    while i < text.len() {
-        let c = text[i];
-        let after = i + 1;
-        let next = step(now, front, rom, script, file, c);
-        now = next;
-        i = after;
+    for c in text {
+        now = step(now, front, rom, script, file, *c);
     }
     now
 }
@@ -105,13 +90,12 @@ pub fn gather(front: &mut [u8], rom: &mut [u8], script: &mut [u8], file: &[u8], 
     ensures { state result front.new rom.new script.new
         ≡ gathered file.now (opened front.old rom.old script.old) text.now }
 {
-    let r = start();
     let k = Desk {
-        reader: r,
+        reader: start(),
         front: 0,
         rom: 0,
         script: 0,
     };
     let all = run(k, front, rom, script, file, text);
-    step(all, front, rom, script, file, 10)
+    step(all, front, rom, script, file, b'\n')
 }

@@ -3,7 +3,6 @@ use Prim.Native.Nat.{ℕ}
 use mathlib.Core.Bool.{true, false, false≢true}
 use mathlib.Core.List.{List, [], ◌∷◌}
 use mathlib.Core.Path.{◌≡◌, refl, sym, ap, ◌∙◌}
-use lib.Dec.{eqb}
 use Rattle.append.specs.Sheet.{Sheet, puts}
 use Rattle.fields.specs.Bytes.{byte_at}
 use Rattle.common.specs.Width.{Bytes}
@@ -14,78 +13,84 @@ use Rattle.lister.specs.Row.{row_text}
 use Rattle.assembler.specs.Desk.{State, front_of, rom_of, script_of, stepped, runs, made, added}
 use Rattle.bothways.proofs.Quietly.{quietly, quietly-reads, quietly-runs}
 use Rattle.bothways.proofs.{Rows.Open, Rows.before, Row.row-quiet, Row.row-added}
+use Rattle.reader.specs.declared.kinds.{Phase.Phase, Kind.Kind, Emit.Emit}
+use Rattle.reader.specs.declared.kinds.Phase.TheVariants as phases
+use Rattle.reader.specs.declared.kinds.Emit.TheVariants as emits
+use Rattle.reader.specs.Draft.{has_failed, failed_by}
+use Rattle.bothways.proofs.RowKind.{kind_at}
+use Rattle.bothways.proofs.Quietly.{silent_by}
 
 -- behind a line's end: a reader that has not failed, in phase p, and the three buffers
-pub record Rest (p : ℕ) (f o s : Sheet) (k : State) : Type 0 where
-  pub kind : ℕ
+pub record Rest (p : Phase) (f o s : Sheet) (k : State) : Type 0 where
+  pub kind : Kind
   pub b1 : ℕ
   pub b2 : ℕ
   pub b3 : ℕ
   pub b4 : ℕ
-  pub emit : ℕ
-  pub fine : eqb emit 9 ≡ false
+  pub emit : Emit
+  pub fine : failed_by emit ≡ false
   pub is : k ≡ made (before p kind b1 b2 b3 b4 emit) f o s
 
-module _ (p k x₁ x₂ x₃ x₄ e : ℕ) (ok : eqb e 9 ≡ false) where
-  pub quieted : (c : ℕ) → read_of (before p k x₁ x₂ x₃ x₄ e) c ≡ read_of (before p k x₁ x₂ x₃ x₄ 0) c
+module _ (p : Phase) (k : Kind) (x₁ x₂ x₃ x₄ : ℕ) (e : Emit) (ok : failed_by e ≡ false) where
+  pub quieted : (c : ℕ) → read_of (before p k x₁ x₂ x₃ x₄ e) c ≡ read_of (before p k x₁ x₂ x₃ x₄ emits.Nothing) c
   unfolding read_of
   quieted c = rw ok
 
-  module _ (q : Reader) (fine : eqb q.draft.emit 8 ≡ false) where
-    pub line_reads : (c : ℕ) (t : List ℕ) → quietly (before p k x₁ x₂ x₃ x₄ 0) (c ∷ t) ≡ q → reads (before p k x₁ x₂ x₃ x₄ e) (c ∷ t) ≡ q
+  module _ (q : Reader) (fine : has_failed q.draft ≡ false) where
+    pub line_reads : (c : ℕ) (t : List ℕ) → quietly (before p k x₁ x₂ x₃ x₄ emits.Nothing) (c ∷ t) ≡ q → reads (before p k x₁ x₂ x₃ x₄ e) (c ∷ t) ≡ q
     unfolding quietly reads
-    line_reads c t h = ap (λ (r : Reader). reads r t) (quieted c) ∙ quietly-reads q fine (read_of (before p k x₁ x₂ x₃ x₄ 0) c) t h
+    line_reads c t h = ap (λ (r : Reader). reads r t) (quieted c) ∙ quietly-reads q fine (read_of (before p k x₁ x₂ x₃ x₄ emits.Nothing) c) t h
 
     module _ (file : List ℕ) (f o s : Sheet) where
-      first : (c : ℕ) → stepped file (made (before p k x₁ x₂ x₃ x₄ e) f o s) c ≡ added file f o s (read_of (before p k x₁ x₂ x₃ x₄ 0) c)
+      first : (c : ℕ) → stepped file (made (before p k x₁ x₂ x₃ x₄ e) f o s) c ≡ added file f o s (read_of (before p k x₁ x₂ x₃ x₄ emits.Nothing) c)
       unfolding stepped
       first c = ap (added file f o s) (quieted c)
 
-      pub line-runs : (c : ℕ) (t : List ℕ) → quietly (before p k x₁ x₂ x₃ x₄ 0) (c ∷ t) ≡ q
+      pub line-runs : (c : ℕ) (t : List ℕ) → quietly (before p k x₁ x₂ x₃ x₄ emits.Nothing) (c ∷ t) ≡ q
           → runs file (made (before p k x₁ x₂ x₃ x₄ e) f o s) (c ∷ t) ≡ added file f o s q
       unfolding quietly runs
-      line-runs c t h = ap (λ (x : State). runs file x t) (first c) ∙ quietly-runs q fine file f o s (read_of (before p k x₁ x₂ x₃ x₄ 0) c) t h
+      line-runs c t h = ap (λ (x : State). runs file x t) (first c) ∙ quietly-runs q fine file f o s (read_of (before p k x₁ x₂ x₃ x₄ emits.Nothing) c) t h
 
     -- a text that completes something is not empty
-    module _ (some : eqb q.draft.emit 0 ≡ false) where
-      nothing : {A : Type 0} → quietly (before p k x₁ x₂ x₃ x₄ 0) [] ≡ q → A
+    module _ (some : silent_by q.draft.emit ≡ false) where
+      nothing : {A : Type 0} → quietly (before p k x₁ x₂ x₃ x₄ emits.Nothing) [] ≡ q → A
       unfolding quietly
-      nothing h = absurd (false≢true (sym some ∙ ap (λ (r : Reader). eqb r.draft.emit 0) (sym h)))
+      nothing h = absurd (false≢true (sym some ∙ ap (λ (r : Reader). silent_by r.draft.emit) (sym h)))
 
-      pub text-reads : (t : List ℕ) → quietly (before p k x₁ x₂ x₃ x₄ 0) t ≡ q → reads (before p k x₁ x₂ x₃ x₄ e) t ≡ q
+      pub text-reads : (t : List ℕ) → quietly (before p k x₁ x₂ x₃ x₄ emits.Nothing) t ≡ q → reads (before p k x₁ x₂ x₃ x₄ e) t ≡ q
       text-reads [] h = nothing h
       text-reads (c ∷ t) h = line_reads c t h
 
-      pub text-runs : (file : List ℕ) (f o s : Sheet) (t : List ℕ) → quietly (before p k x₁ x₂ x₃ x₄ 0) t ≡ q
+      pub text-runs : (file : List ℕ) (f o s : Sheet) (t : List ℕ) → quietly (before p k x₁ x₂ x₃ x₄ emits.Nothing) t ≡ q
           → runs file (made (before p k x₁ x₂ x₃ x₄ e) f o s) t ≡ added file f o s q
       text-runs file f o s [] h = nothing h
       text-runs file f o s (c ∷ t) h = line-runs file f o s c t h
 
 -- reading what list writes of a well-formed row gives its kind and fields, and completes a row
-pub row_back : (k x₁ x₂ x₃ x₄ e : ℕ) → eqb e 9 ≡ false → (p : ℕ) → Open p → (b : List ℕ) → Bytes b → formed_row b ≡ true
-    → reads (before p k x₁ x₂ x₃ x₄ e) (row_text b) ≡ before 4 (byte_at b 0) (byte_at b 1) (byte_at b 2) (byte_at b 3) (byte_at b 4) 3
+pub row_back : (k : Kind) (x₁ x₂ x₃ x₄ : ℕ) (e : Emit) → failed_by e ≡ false → (p : Phase) → Open p → (b : List ℕ) → Bytes b → formed_row b ≡ true
+    → reads (before p k x₁ x₂ x₃ x₄ e) (row_text b) ≡ before phases.Rows (kind_at (byte_at b 0)) (byte_at b 1) (byte_at b 2) (byte_at b 3) (byte_at b 4) emits.Row
 row_back k x₁ x₂ x₃ x₄ e ok p o b small h =
-    text-reads p k x₁ x₂ x₃ x₄ e ok (before 4 (byte_at b 0) (byte_at b 1) (byte_at b 2) (byte_at b 3) (byte_at b 4) 3) refl refl (row_text b)
+    text-reads p k x₁ x₂ x₃ x₄ e ok (before phases.Rows (kind_at (byte_at b 0)) (byte_at b 1) (byte_at b 2) (byte_at b 3) (byte_at b 4) emits.Row) refl refl (row_text b)
     (row-quiet k x₁ x₂ x₃ x₄ p o b small h)
 
 -- the line of a row adds its 8 bytes to the script
 module _ (file : List ℕ) (f o s : Sheet) (b : List ℕ) (small : Bytes b) (h : formed_row b ≡ true) where
   abbrev done : Reader
-  done = before 4 (byte_at b 0) (byte_at b 1) (byte_at b 2) (byte_at b 3) (byte_at b 4) 3
+  done = before phases.Rows (kind_at (byte_at b 0)) (byte_at b 1) (byte_at b 2) (byte_at b 3) (byte_at b 4) emits.Row
 
   only : added file f o s done ≡ made done f o (puts s (script_of done.draft))
   unfolding front_of rom_of puts
   only = refl
 
-  pub row_line : (p : ℕ) → Open p → (k : State) → Rest p f o s k → Rest 4 f o (puts s b) (runs file k (row_text b))
+  pub row_line : (p : Phase) → Open p → (k : State) → Rest p f o s k → Rest phases.Rows f o (puts s b) (runs file k (row_text b))
   row_line p may k r =
       record {
-        kind = byte_at b 0;
+        kind = kind_at (byte_at b 0);
         b1 = byte_at b 1;
         b2 = byte_at b 2;
         b3 = byte_at b 3;
         b4 = byte_at b 4;
-        emit = 3;
+        emit = emits.Row;
         fine = refl;
         is =
             ap (λ (x : State). runs file x (row_text b)) r.is

@@ -9,13 +9,20 @@ use Rattle.append.specs.{Sheet.Sheet, Sheet.puts, Number.glyph_of, Texts.codes}
 use Rattle.common.specs.Width.{Bytes}
 use Rattle.reader.specs.declared.reader.Reader.{Reader}
 use Rattle.reader.specs.{Letter.sign_of, Draft.draft}
-use Rattle.reader.specs.Word.{word, blank_word, dollar_of, worth_of}
-use Rattle.reader.specs.Line.{number_of, taken_of, closing_of, line_of}
+use Rattle.reader.specs.Word.{word, blank_word, dollar_of, meaning_of}
+use Rattle.reader.specs.Number.{number_of}
+use Rattle.reader.specs.Line.{taken_of, closing_of, line_of}
 use Rattle.reader.specs.Reader.{reader, shut_of, spaced_of, plain_of, step_of, read_of}
 use Rattle.lister.specs.Body.{bytes_text}
 use Rattle.assembler.specs.Desk.{State, front_of, rom_of, script_of, stepped, runs, made, added}
 use Rattle.bothways.proofs.Quietly.{quietly, quietly-runs, one}
 use Rattle.bothways.proofs.{Digits.plain, Digits.byte-first, Rows.before}
+use Rattle.reader.specs.declared.kinds.{Phase.Phase, Expected.Expected, Kind.Kind, Emit.Emit}
+use Rattle.reader.specs.declared.kinds.Phase.TheVariants as phases
+use Rattle.reader.specs.declared.kinds.Expected.TheVariants as wants
+use Rattle.reader.specs.declared.kinds.Kind.TheVariants as kinds
+use Rattle.reader.specs.declared.kinds.Emit.TheVariants as emits
+use Rattle.reader.specs.declared.word.Form.TheVariants as forms
 
 pub data Section : Type 0 where
   fill : Section
@@ -26,33 +33,33 @@ abbrev pub word_of : Section → List ℕ
 word_of fill = codes "fill"
 word_of rom = codes "rom"
 
-abbrev pub early : Section → ℕ
-early fill = 1
-early rom = 2
+abbrev pub early : Section → Phase
+early fill = phases.Settings
+early rom = phases.Fill
 
 -- the phase that it opens, its kind, what is expected first and then, and what each byte completes
-abbrev pub late : Section → ℕ
-late fill = 2
-late rom = 3
+abbrev pub late : Section → Phase
+late fill = phases.Fill
+late rom = phases.Rom
 
-abbrev pub kind_of : Section → ℕ
-kind_of fill = 9
-kind_of rom = 10
+abbrev pub kind_of : Section → Kind
+kind_of fill = kinds.Fill
+kind_of rom = kinds.Rom
 
-abbrev pub first_of : Section → ℕ
-first_of fill = 11
-first_of rom = 12
+abbrev pub first_of : Section → Expected
+first_of fill = wants.FillByte
+first_of rom = wants.RomByteOrFile
 
-abbrev more_of : Section → ℕ
-more_of fill = 13
-more_of rom = 19
+abbrev more_of : Section → Expected
+more_of fill = wants.MoreFill
+more_of rom = wants.MoreRom
 
-abbrev pub emit_of : Section → ℕ
-emit_of fill = 1
-emit_of rom = 5
+abbrev pub emit_of : Section → Emit
+emit_of fill = emits.FillByte
+emit_of rom = emits.RomByte
 
 -- first or later
-abbrev wanted_of : Section → Bool → ℕ
+abbrev wanted_of : Section → Bool → Expected
 wanted_of b true = first_of b
 wanted_of b false = more_of b
 
@@ -70,13 +77,13 @@ gained b r f o s l = made r (puts f (to_front b l)) (puts o (to_rom b l)) s
 
 -- a byte x is read, y was before it
 abbrev pub byte_read : Section → Bool → ℕ → ℕ → Reader
-byte_read b i x y = reader (word 3 x 0) (draft (late b) (wanted_of b i) (kind_of b) y 0 0 0 0)
+byte_read b i x y = reader (word forms.Hex x 0) (draft (late b) (wanted_of b i) (kind_of b) y 0 0 0 emits.Nothing)
 
 abbrev pub spaced_read : Section → ℕ → Reader
-spaced_read b x = reader (blank_word 0) (draft (late b) (more_of b) (kind_of b) x 0 0 0 (emit_of b))
+spaced_read b x = reader (blank_word forms.Between) (draft (late b) (more_of b) (kind_of b) x 0 0 0 (emit_of b))
 
 abbrev pub dollar_read : Section → ℕ → Reader
-dollar_read b x = reader (word 2 0 0) (draft (late b) (more_of b) (kind_of b) x 0 0 0 0)
+dollar_read b x = reader (word forms.Dollar 0 0) (draft (late b) (more_of b) (kind_of b) x 0 0 0 emits.Nothing)
 
 abbrev pub line_read : Section → ℕ → Reader
 line_read b x = before (late b) (kind_of b) x 0 0 0 (emit_of b)
@@ -92,14 +99,14 @@ module _ (x y : ℕ) (lx : x < 256) where
   same = omega arith
 
   pub space : (b : Section) (i : Bool) → read_of (byte_read b i x y) 32 ≡ spaced_read b x
-  unfolding read_of step_of sign_of spaced_of shut_of taken_of number_of worth_of
+  unfolding read_of step_of sign_of spaced_of shut_of taken_of number_of meaning_of
   space fill true = rw (le-leb 0 x least, le-leb x 255 most, same)
   space fill false = rw (le-leb 0 x least, le-leb x 255 most, same)
   space rom true = rw (le-leb 0 x least, le-leb x 255 most, same)
   space rom false = rw (le-leb 0 x least, le-leb x 255 most, same)
 
   end : (b : Section) (i : Bool) → read_of (byte_read b i x y) 10 ≡ line_read b x
-  unfolding read_of step_of sign_of shut_of taken_of number_of worth_of line_of closing_of
+  unfolding read_of step_of sign_of shut_of taken_of number_of meaning_of line_of closing_of
   end fill true = rw (le-leb 0 x least, le-leb x 255 most, same)
   end fill false = rw (le-leb 0 x least, le-leb x 255 most, same)
   end rom true = rw (le-leb 0 x least, le-leb x 255 most, same)

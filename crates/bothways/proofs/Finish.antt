@@ -3,7 +3,6 @@ use Prim.Native.Nat.{ℕ, ◌≤◌}
 use mathlib.Core.Bool.{true, false}
 use mathlib.Core.List.{List}
 use mathlib.Core.Path.{◌≡◌, refl, ap, ◌∙◌}
-use lib.Dec.{eqb}
 use lib.ListN.{length, replicate}
 use Rattle.append.specs.Sheet.{Sheet, sheet, puts}
 use Rattle.reader.specs.{Letter.sign_of, Line.line_of}
@@ -12,15 +11,18 @@ use Rattle.assembler.specs.Desk.{State, front_of, rom_of, script_of, stepped, ma
 use Rattle.assembler.specs.Assemble.{ready_of, finished, left}
 use Rattle.bothways.proofs.Rows.{Open, fill, rom, rows, before}
 use Rattle.bothways.proofs.{Lines.Scripted, Bound.kept}
+use Rattle.reader.specs.declared.kinds.{Phase.Phase, Kind.Kind, Emit.Emit}
+use Rattle.reader.specs.declared.kinds.Emit.TheVariants as emits
+use Rattle.reader.specs.Draft.{failed_by}
 
 -- the line feed behind the text adds nothing
-module _ (file : List ℕ) (p k x₁ x₂ x₃ x₄ e : ℕ) (ok : eqb e 9 ≡ false) (f o s : Sheet) where
-  last : stepped file (made (before p k x₁ x₂ x₃ x₄ e) f o s) 10 ≡ made (before p k x₁ x₂ x₃ x₄ 0) f o s
+module _ (file : List ℕ) (p : Phase) (k : Kind) (x₁ x₂ x₃ x₄ : ℕ) (e : Emit) (ok : failed_by e ≡ false) (f o s : Sheet) where
+  last : stepped file (made (before p k x₁ x₂ x₃ x₄ e) f o s) 10 ≡ made (before p k x₁ x₂ x₃ x₄ emits.Nothing) f o s
   unfolding stepped read_of step_of sign_of shut_of line_of front_of rom_of script_of puts
   last = rw ok
 
 -- where rows may come there are settings and a fill
-ready : (k x₁ x₂ x₃ x₄ p : ℕ) → Open p → ready_of (before p k x₁ x₂ x₃ x₄ 0).draft ≡ true
+ready : (k : Kind) (x₁ x₂ x₃ x₄ : ℕ) (p : Phase) → Open p → ready_of (before p k x₁ x₂ x₃ x₄ emits.Nothing).draft ≡ true
 unfolding ready_of
 ready k x₁ x₂ x₃ x₄ p fill = refl
 ready k x₁ x₂ x₃ x₄ p rom = refl

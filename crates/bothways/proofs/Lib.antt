@@ -1,3 +1,4 @@
+pub mod RowKind
 pub mod Quietly
 pub mod Digits
 pub mod Rows

@@ -14,7 +14,7 @@ use Rattle.benchfile.specs.{Row.formed_row, Row.row_bytes, File.script_formed}
 use Rattle.fields.proofs.Parts.{part_bytes}
 use Rattle.benchfile.proofs.Rows.{script}
 use Rattle.reader.specs.{Letter.sign_of, Letter.digit_of, Draft.draft, Draft.keyword_of, Line.named_of, Line.taken_of}
-use Rattle.reader.specs.Word.{word, letter_of, dollar_of, worth_of}
+use Rattle.reader.specs.Word.{word, letter_of, dollar_of, meaning_of}
 use Rattle.reader.specs.Reader.{reader, shut_of, spaced_of, plain_of, step_of, read_of}
 use Rattle.lister.specs.Body.{bytes_text, line_text, lines_from, lines_text}
 use Rattle.lister.specs.{Row.row_text, List.rows_text, List.script_text}
@@ -22,28 +22,32 @@ use Rattle.assembler.specs.Desk.{State, stepped, runs, made}
 use Rattle.bothways.proofs.{Quietly.quietly, Digits.plain, Digits.byte-first}
 use Rattle.bothways.proofs.Rows.{Open, rows, before}
 use Rattle.bothways.proofs.Between.{Rest, line-runs, row_line}
-use lib.Dec.{eqb}
 use Rattle.bothways.proofs.Body.{Section, fill, rom, word_of, early, late, kind_of, first_of, emit_of, to_front, to_rom, byte_read, line_read, last_of, gained, nothing, bytes_run}
+use Rattle.reader.specs.declared.kinds.{Phase.Phase, Kind.Kind}
+use Rattle.reader.specs.declared.kinds.Phase.TheVariants as phases
+use Rattle.reader.specs.declared.kinds.Emit.TheVariants as emits
+use Rattle.reader.specs.declared.word.Form.TheVariants as forms
+use Rattle.reader.specs.Draft.{failed_by}
 
 -- the phase of a text with bytes l of a section
-abbrev pub phase_of : Section → List ℕ → ℕ
+abbrev pub phase_of : Section → List ℕ → Phase
 phase_of b [] = early b
 phase_of b (x ∷ l) = late b
 
 -- the word and the first byte
-module _ (k x₁ x₂ x₃ x₄ : ℕ) (z : ℕ) (lz : z < 256) where
+module _ (k : Kind) (x₁ x₂ x₃ x₄ : ℕ) (z : ℕ) (lz : z < 256) where
   abbrev start : List ℕ
   start = codes " $" ++ glyph_of (z / 16) ∷ glyph_of z ∷ []
 
   word-dollar : (b : Section) (a t : List ℕ)
-      → quietly (before (phase_of b a) k x₁ x₂ x₃ x₄ 0) (word_of b ++ (codes " $" ++ t)) ≡ quietly (reader (word 2 0 0) (draft (late b) (first_of b) (kind_of b) 0 0 0 0 0)) t
-  unfolding quietly read_of step_of plain_of letter_of sign_of digit_of dollar_of spaced_of shut_of taken_of named_of keyword_of worth_of
+      → quietly (before (phase_of b a) k x₁ x₂ x₃ x₄ emits.Nothing) (word_of b ++ (codes " $" ++ t)) ≡ quietly (reader (word forms.Dollar 0 0) (draft (late b) (first_of b) (kind_of b) 0 0 0 0 emits.Nothing)) t
+  unfolding quietly read_of step_of plain_of letter_of sign_of digit_of dollar_of spaced_of shut_of taken_of named_of keyword_of meaning_of
   word-dollar fill [] t = refl
   word-dollar fill (x ∷ a) t = refl
   word-dollar rom [] t = refl
   word-dollar rom (x ∷ a) t = refl
 
-  pub opening : (b : Section) (a : List ℕ) → quietly (before (phase_of b a) k x₁ x₂ x₃ x₄ 0) (word_of b ++ start) ≡ byte_read b true z 0
+  pub opening : (b : Section) (a : List ℕ) → quietly (before (phase_of b a) k x₁ x₂ x₃ x₄ emits.Nothing) (word_of b ++ start) ≡ byte_read b true z 0
   unfolding quietly
   opening b a =
       word-dollar b a (glyph_of (z / 16) ∷ glyph_of z ∷ [])
@@ -82,7 +86,7 @@ module _ (file : List ℕ) (b : Section) (f o s : Sheet) where
     opened =
         line-runs (phase_of b a) r.kind r.b1 r.b2 r.b3 r.b4 r.emit r.fine (byte_read b true z 0) refl file
         (puts f (to_front b a)) (puts o (to_rom b a)) s (head b) (letters b ++ (codes " $" ++ glyph_of (z / 16) ∷ glyph_of z ∷ []))
-        (ap (quietly (before (phase_of b a) r.kind r.b1 r.b2 r.b3 r.b4 0))
+        (ap (quietly (before (phase_of b a) r.kind r.b1 r.b2 r.b3 r.b4 emits.Nothing))
         (sym (lettered b (codes " $" ++ glyph_of (z / 16) ∷ glyph_of z ∷ [])))
         ∙ opening r.kind r.b1 r.b2 r.b3 r.b4 z small.0 b a)
         ∙ nothing file b (puts f (to_front b a)) (puts o (to_rom b a)) s z 0 true
@@ -110,7 +114,7 @@ unfolding puts
 rom-more fill o a l = refl
 rom-more rom o a l = then o a l refl refl
 
-fine : (b : Section) → eqb (emit_of b) 9 ≡ false
+fine : (b : Section) → failed_by (emit_of b) ≡ false
 fine fill = refl
 fine rom = refl
 
@@ -132,7 +136,7 @@ module _ (file : List ℕ) (b : Section) (f o s : Sheet) where
             ran file b f o s a k r z l small
             ∙ ap (λ (x : Sheet). made (line_read b (last_of z l)) x (puts (puts o (to_rom b a)) (to_rom b (z ∷ l))) s) (front-more b f a (z ∷ l))
             ∙ ap (λ (x : Sheet). made (line_read b (last_of z l)) (puts f (to_front b (a ++ (z ∷ l)))) x s) (rom-more b o a (z ∷ l))
-            ∙ ap (λ (x : ℕ). made (before x (kind_of b) (last_of z l) 0 0 0 (emit_of b)) (puts f (to_front b (a ++ (z ∷ l)))) (puts o (to_rom b (a ++ (z ∷ l)))) s)
+            ∙ ap (λ (x : Phase). made (before x (kind_of b) (last_of z l) 0 0 0 (emit_of b)) (puts f (to_front b (a ++ (z ∷ l)))) (puts o (to_rom b (a ++ (z ∷ l)))) s)
             (sym (phase-more file b f o s a z l));
       }
 
@@ -170,7 +174,7 @@ module _ (file : List ℕ) (b : Section) (f o s : Sheet) (l : List ℕ) (small :
 module _ (file : List ℕ) (f o s : Sheet) where
   -- rows may come, and the script has these bytes so far
   abbrev pub Scripted : List ℕ → State → Type 0
-  Scripted a k = (p : ℕ) × (Open p × Rest p f o (puts s a) k)
+  Scripted a k = (p : Phase) × (Open p × Rest p f o (puts s a) k)
 
   module _ (l : List ℕ) (small : Bytes l) where
     -- n rows from row i on
@@ -184,7 +188,7 @@ module _ (file : List ℕ) (f o s : Sheet) where
         let one = row_line file f o (puts s a) p (part_bytes l (i * 8) 8 small) (h i (omega arith)) r.0 r.1.0 k r.1.1 in
         let put : puts (puts s a) p ≡ puts s (a ++ p) = then s a p refl refl in
         let here : Scripted (a ++ p) (runs file k (row_text p)) =
-        (4, (rows, subst (λ (x : Sheet). Rest 4 f o x (runs file k (row_text p))) put one)) in
+        (phases.Rows, (rows, subst (λ (x : Sheet). Rest phases.Rows f o x (runs file k (row_text p))) put one)) in
         let rest = rows-from n (i + 1) (λ j m. h j (omega arith)) (a ++ p) (runs file k (row_text p)) here in
         let q : (a ++ p) ++ part_of l ((i + 1) * 8) (n * 8) ≡ a ++ part_of l (i * 8) (suc n * 8) =
         append_assoc a p (part_of l ((i + 1) * 8) (n * 8)) ∙ ap (λ (x : List ℕ). a ++ x) (part-next l 8 i n) in

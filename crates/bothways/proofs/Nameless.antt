@@ -23,9 +23,14 @@ use Rattle.bothways.proofs.Between.{Rest, line_reads, row_line}
 use Rattle.bothways.proofs.Body.{Section, word_of, byte_read, spaced_read, dollar_read, space, dollar, digits}
 use Rattle.bothways.proofs.Lines.{phase_of, opening, head, letters, lettered, parted, Holds, line, Scripted}
 use Rattle.bothways.proofs.Unnamed.{Unnamed, unnamed_none, unnamed_next, unnamed_append, unnamed_runs, quietly_unnamed, line_unnamed}
+use Rattle.reader.specs.declared.kinds.Phase.{Phase}
+use Rattle.reader.specs.declared.kinds.Phase.TheVariants as phases
+use Rattle.reader.specs.declared.kinds.Kind.TheVariants as kinds
+use Rattle.reader.specs.declared.kinds.Emit.TheVariants as emits
+use Rattle.bothways.proofs.RowKind.{kind_at}
 
 pub settings-nameless : (n : ℕ) → n < 65536 → Unnamed start_of (settings_text n)
-settings-nameless n h = quietly_unnamed (before 1 8 (n % 256) (n / 256) 0 0 2) refl start_of (settings_text n) (settings-back n h)
+settings-nameless n h = quietly_unnamed (before phases.Settings kinds.Bitcycles (n % 256) (n / 256) 0 0 emits.Settings) refl start_of (settings_text n) (settings-back n h)
 
 -- the bytes behind x
 bytes-nameless : (b : Section) (i : Bool) (x y : ℕ) (l : List ℕ) → Bytes (x ∷ l) → Unnamed (byte_read b i x y) (bytes_text l ++ codes "\n")
@@ -55,8 +60,8 @@ module _ (file : List ℕ) (b : Section) (f o s : Sheet) where
       let u : List ℕ = letters b ++ (codes " $" ++ glyph_of (z / 16) ∷ glyph_of z ∷ []) in
       let q : Reader = byte_read b true z 0 in
       let was : Reader = before (phase_of b a) r.kind r.b1 r.b2 r.b3 r.b4 r.emit in
-      let e : quietly (before (phase_of b a) r.kind r.b1 r.b2 r.b3 r.b4 0) (head b ∷ u) ≡ byte_read b true z 0 =
-      ap (quietly (before (phase_of b a) r.kind r.b1 r.b2 r.b3 r.b4 0))
+      let e : quietly (before (phase_of b a) r.kind r.b1 r.b2 r.b3 r.b4 emits.Nothing) (head b ∷ u) ≡ byte_read b true z 0 =
+      ap (quietly (before (phase_of b a) r.kind r.b1 r.b2 r.b3 r.b4 emits.Nothing))
       (sym (lettered b (codes " $" ++ glyph_of (z / 16) ∷ glyph_of z ∷ [])))
       ∙ opening r.kind r.b1 r.b2 r.b3 r.b4 z small.0 b a in
       let first : Unnamed was (head b ∷ u) =
@@ -85,14 +90,14 @@ module _ (file : List ℕ) (b : Section) (f o s : Sheet) where
     lines-nameless k r = from-nameless (length l / 16 + 1) 0 [] k r
 
 module _ (file : List ℕ) (f o : Sheet) (l : List ℕ) (small : Bytes l) where
-  row-nameless : (s : Sheet) (b : List ℕ) → Bytes b → formed_row b ≡ true → (p : ℕ) → Open p → (k : State) → Rest p f o s k → Unnamed k.reader (row_text b)
+  row-nameless : (s : Sheet) (b : List ℕ) → Bytes b → formed_row b ≡ true → (p : Phase) → Open p → (k : State) → Rest p f o s k → Unnamed k.reader (row_text b)
   row-nameless s b bytes h p may k r =
       let there : Unnamed (before p r.kind r.b1 r.b2 r.b3 r.b4 r.emit) (row_text b) =
-      line_unnamed (before 4 (byte_at b 0) (byte_at b 1) (byte_at b 2) (byte_at b 3) (byte_at b 4) 3) refl p r.kind r.b1 r.b2 r.b3 r.b4 r.emit r.fine (row_text b)
+      line_unnamed (before phases.Rows (kind_at (byte_at b 0)) (byte_at b 1) (byte_at b 2) (byte_at b 3) (byte_at b 4) emits.Row) refl p r.kind r.b1 r.b2 r.b3 r.b4 r.emit r.fine (row_text b)
       (row-quiet r.kind r.b1 r.b2 r.b3 r.b4 p may b bytes h) in
       subst (λ (x : State). Unnamed x.reader (row_text b)) (sym r.is) there
 
-  rows-nameless : (n i : ℕ) → ((j : ℕ) → j < i + n → formed_row (row_bytes l j) ≡ true) → (s : Sheet) (p : ℕ) → Open p → (k : State) → Rest p f o s k
+  rows-nameless : (n i : ℕ) → ((j : ℕ) → j < i + n → formed_row (row_bytes l j) ≡ true) → (s : Sheet) (p : Phase) → Open p → (k : State) → Rest p f o s k
       → Unnamed k.reader (rows_text l n i)
   unfolding each
   rows-nameless zero i h s p may k r = unnamed_none k.reader
@@ -101,7 +106,7 @@ module _ (file : List ℕ) (f o : Sheet) (l : List ℕ) (small : Bytes l) where
       let bytes = part_bytes l (i * 8) 8 small in
       let formed = h i (omega arith) in
       unnamed_runs file k (row_text b) (rows_text l n (i + 1)) (row-nameless s b bytes formed p may k r)
-      (rows-nameless n (i + 1) (λ j m. h j (omega arith)) (puts s b) 4 rows (runs file k (row_text b)) (row_line file f o s b bytes formed p may k r))
+      (rows-nameless n (i + 1) (λ j m. h j (omega arith)) (puts s b) phases.Rows rows (runs file k (row_text b)) (row_line file f o s b bytes formed p may k r))
 
   -- the rows of a script
   pub script-nameless : script_formed l ≡ true → (s : Sheet) (k : State) → Scripted file f o s [] k → Unnamed k.reader (script_text l)

@@ -3,22 +3,36 @@ use Prim.Native.Nat.{ℕ}
 use mathlib.Core.Bool.{Bool, true, false, not, ◌&&◌, false≢true, and-eq-true_iff}
 use mathlib.Core.List.{List, [], ◌∷◌}
 use mathlib.Core.Path.{◌≡◌, refl, sym, ap, ◌∙◌}
-use lib.Dec.{eqb}
-use borrow.Author.Tests.{eqb-true}
 use Rattle.common.specs.Pick.{pick}
 use Rattle.append.specs.Sheet.{Sheet, puts}
 use Rattle.reader.specs.declared.reader.Reader.{Reader}
 use Rattle.reader.specs.{Word.blank_word, Draft.draft}
 use Rattle.reader.specs.Reader.{reader, read_of, reads}
 use Rattle.assembler.specs.Desk.{State, made, front_of, rom_of, script_of, added, stepped, runs}
+use Rattle.reader.specs.declared.kinds.Emit.{Emit}
+use Rattle.reader.specs.declared.kinds.Phase.TheVariants as phases
+use Rattle.reader.specs.declared.kinds.Expected.TheVariants as wants
+use Rattle.reader.specs.declared.kinds.Kind.TheVariants as kinds
+use Rattle.reader.specs.declared.kinds.Emit.TheVariants as emits
+use Rattle.reader.specs.declared.word.Form.TheVariants as forms
+use Rattle.reader.specs.Draft.{has_failed}
+use Rattle.reader.specs.Word.{in_name}
 
--- no reader of a text is this: nothing emits 8
+-- a reader that has failed
 abbrev pub loud : Reader
-loud = reader (blank_word 0) (draft 0 0 0 0 0 0 0 8)
+loud = reader (blank_word forms.Between) (draft phases.Nothing wants.Line kinds.Nothing 0 0 0 0 emits.Failed)
+
+abbrev pub silent_by : Emit → Bool
+silent_by emits.Nothing = true
+silent_by _ = false
+
+is_nothing : (e : Emit) → silent_by e ≡ true → e ≡ emits.Nothing
+is_nothing emits.Nothing h = refl
+is_nothing _ h = absurd (false≢true h)
 
 -- nothing was completed, and no file name is being read
 abbrev pub calm : Reader → Bool
-calm r = eqb r.draft.emit 0 && not (eqb r.word.form 8)
+calm r = silent_by r.draft.emit && not (in_name r.word)
 
 -- reads, where each reader before a character is calm; loud elsewhere
 unfoldable pub quietly : Reader → List ℕ → Reader
@@ -30,10 +44,10 @@ pub one : (file : List ℕ) (f o s : Sheet) (r : Reader) (c : ℕ) → stepped f
 unfolding stepped
 one file f o s r c = refl
 
-module _ (q : Reader) (fine : eqb q.draft.emit 8 ≡ false) where
+module _ (q : Reader) (fine : has_failed q.draft ≡ false) where
   -- loud is not fine
   pub not-loud : {A : Type 0} → loud ≡ q → A
-  not-loud e = absurd (false≢true (sym fine ∙ ap (λ (r : Reader). eqb r.draft.emit 8) (sym e)))
+  not-loud e = absurd (false≢true (sym fine ∙ ap (λ (r : Reader). has_failed r.draft) (sym e)))
 
   quiet_read : (b : Bool) (r : Reader) (t : List ℕ) → (quietly r t ≡ q → reads r t ≡ q) → pick b (quietly r t) loud ≡ q → reads r t ≡ q
   quiet_read true r t ih e = ih e
@@ -47,7 +61,7 @@ module _ (q : Reader) (fine : eqb q.draft.emit 8 ≡ false) where
 
   -- and adds what its last character completes
   module _ (file : List ℕ) (f o s : Sheet) where
-    silent : (r : Reader) → r.draft.emit ≡ 0 → added file f o s r ≡ made r f o s
+    silent : (r : Reader) → r.draft.emit ≡ emits.Nothing → added file f o s r ≡ made r f o s
     unfolding front_of rom_of script_of puts
     silent r e = rw e
 
@@ -56,7 +70,7 @@ module _ (q : Reader) (fine : eqb q.draft.emit 8 ≡ false) where
         → pick b (quietly (read_of r c) t) loud ≡ q
         → runs file (stepped file (added file f o s r) c) t ≡ added file f o s q
     quiet-run r c t true z ih e =
-        ap (λ (k : State). runs file (stepped file k c) t) (silent r (eqb-true r.draft.emit 0 ((and-eq-true_iff (eqb r.draft.emit 0) (not (eqb r.word.form 8))).0 z).0))
+        ap (λ (k : State). runs file (stepped file k c) t) (silent r (is_nothing r.draft.emit ((and-eq-true_iff (silent_by r.draft.emit) (not (in_name r.word))).0 z).0))
         ∙ ap (λ (k : State). runs file k t) (one file f o s r c)
         ∙ ih e
     quiet-run r c t false z ih e = not-loud e

@@ -16,7 +16,7 @@ use Rattle.benchfile.specs.declared.row.Row.{Row}
 use Rattle.benchfile.specs.declared.row.Row.TheVariants.{Cycles, Read, Write, Pad, Plug, Answer, Back, Broken}
 use Rattle.benchfile.specs.Row.{all_zero, zeros, form_table, formed_row, row_of, bytes_of}
 use Rattle.benchfile.proofs.{RowBytes.bytes-row, Found.Holds, Found.found, Numbers.lo_back, Numbers.hi-back}
-use Rattle.reader.specs.Draft.{draft}
+use Rattle.reader.specs.Draft.{draft, kind_number}
 use Rattle.assembler.specs.Desk.{script_of}
 use Rattle.fields.proofs.Parts.{listed}
 use Rattle.bothways.proofs.Quietly.{quietly}
@@ -24,6 +24,11 @@ use Rattle.lister.specs.Row.{row_text}
 use Rattle.bothways.proofs.Rows.{Open, before, read_back, write-back, answer_back}
 use Rattle.bothways.proofs.Counts.{bit, back-back, pad-back, plug-back}
 use Rattle.bothways.proofs.Cycles as cycles
+use Rattle.reader.specs.declared.kinds.{Phase.Phase, Kind.Kind}
+use Rattle.reader.specs.declared.kinds.Phase.TheVariants as phases
+use Rattle.reader.specs.declared.kinds.Expected.TheVariants as wants
+use Rattle.reader.specs.declared.kinds.Emit.TheVariants as emits
+use Rattle.bothways.proofs.RowKind.{kind_at}
 
 flags_of : (f : ℕ) → f ≤ 3 → cycles.Flags f
 flags_of zero h = cycles.none
@@ -37,7 +42,7 @@ bit_of zero h = (false, refl)
 bit_of (suc zero) h = (true, refl)
 bit_of (suc (suc n)) h = absurd (omega arith)
 
-module _ (k x₁ x₂ x₃ x₄ : ℕ) (p : ℕ) (o : Open p) where
+module _ (k : Kind) (x₁ x₂ x₃ x₄ : ℕ) (p : Phase) (o : Open p) where
   module _ (b₀ b₁ b₂ b₃ b₄ b₅ b₆ b₇ : ℕ) (l₁ : b₁ < 256) (l₂ : b₂ < 256) (l₃ : b₃ < 256) (l₄ : b₄ < 256) where
     abbrev given : List ℕ
     given = b₀ ∷ b₁ ∷ b₂ ∷ b₃ ∷ b₄ ∷ b₅ ∷ b₆ ∷ b₇ ∷ []
@@ -49,7 +54,7 @@ module _ (k x₁ x₂ x₃ x₄ : ℕ) (p : ℕ) (o : Open p) where
     second : (x y : ℕ) (l : List ℕ) → all_zero (x ∷ y ∷ l) ≡ true → y ≡ 0
     second x y l h = head y l ((and-eq-true_iff (eqb x 0) (all_zero (y ∷ l))).0 h).1
 
-    of_kind : Holds (form_table given) b₀ → quietly (before p k x₁ x₂ x₃ x₄ 0) (row_text given) ≡ before 4 b₀ b₁ b₂ b₃ b₄ 3
+    of_kind : Holds (form_table given) b₀ → quietly (before p k x₁ x₂ x₃ x₄ emits.Nothing) (row_text given) ≡ before phases.Rows (kind_at b₀) b₁ b₂ b₃ b₄ emits.Row
     unfolding row_text
     of_kind (inl (q, h)) =
         let r = (and-eq-true_iff (leb 1 (field 2 given 1) && leb b₄ 3) (zeros given 5)).0 h in
@@ -92,7 +97,7 @@ module _ (k x₁ x₂ x₃ x₄ : ℕ) (p : ℕ) (o : Open p) where
 
   -- reading what list writes of a well-formed row gives its kind and fields, and completes a row at its end and nothing before
   pub row-quiet : (b : List ℕ) → Bytes b → formed_row b ≡ true
-      → quietly (before p k x₁ x₂ x₃ x₄ 0) (row_text b) ≡ before 4 (byte_at b 0) (byte_at b 1) (byte_at b 2) (byte_at b 3) (byte_at b 4) 3
+      → quietly (before p k x₁ x₂ x₃ x₄ emits.Nothing) (row_text b) ≡ before phases.Rows (kind_at (byte_at b 0)) (byte_at b 1) (byte_at b 2) (byte_at b 3) (byte_at b 4) emits.Row
   unfolding formed_row
   row-quiet b small h =
       let q = (and-eq-true_iff (eqb (length b) 8) (find (form_table b) (byte_at b 0) false)).0 h in
@@ -101,10 +106,10 @@ module _ (k x₁ x₂ x₃ x₄ : ℕ) (p : ℕ) (o : Open p) where
       let kept : Holds (form_table b) (byte_at b 0) = found (form_table b) (byte_at b 0) q.1 in
       let spread : Holds (form_table (span 8 b 0)) (byte_at b 0) = subst (λ (l : List ℕ). Holds (form_table l) (byte_at l 0)) (sym w) kept in
       let back = of_kind (byte_at b 0) (byte_at b 1) (byte_at b 2) (byte_at b 3) (byte_at b 4) (byte_at b 5) (byte_at b 6) (byte_at b 7) (byte_fits b 1 small) (byte_fits b 2 small) (byte_fits b 3 small) (byte_fits b 4 small) spread in
-      subst (λ (l : List ℕ). quietly (before p k x₁ x₂ x₃ x₄ 0) (row_text l) ≡ before 4 (byte_at b 0) (byte_at b 1) (byte_at b 2) (byte_at b 3) (byte_at b 4) 3) w back
+      subst (λ (l : List ℕ). quietly (before p k x₁ x₂ x₃ x₄ emits.Nothing) (row_text l) ≡ before phases.Rows (kind_at (byte_at b 0)) (byte_at b 1) (byte_at b 2) (byte_at b 3) (byte_at b 4) emits.Row) w back
 
 -- the bytes behind the fields of a row are zero
-ends : (r : Row) → byte_at (bytes_of r) 0 ∷ byte_at (bytes_of r) 1 ∷ byte_at (bytes_of r) 2 ∷ byte_at (bytes_of r) 3 ∷ byte_at (bytes_of r) 4 ∷ 0 ∷ 0 ∷ 0 ∷ []
+ends : (r : Row) → kind_number (kind_at (byte_at (bytes_of r) 0)) ∷ byte_at (bytes_of r) 1 ∷ byte_at (bytes_of r) 2 ∷ byte_at (bytes_of r) 3 ∷ byte_at (bytes_of r) 4 ∷ 0 ∷ 0 ∷ 0 ∷ []
     ≡ bytes_of r
 unfolding bytes_of
 ends (Cycles n event due timer) = refl
@@ -118,10 +123,10 @@ ends Broken = refl
 
 -- and what such a line adds to the script is the row itself
 pub row-added : (b : List ℕ) → Bytes b → formed_row b ≡ true
-    → script_of (draft 4 0 (byte_at b 0) (byte_at b 1) (byte_at b 2) (byte_at b 3) (byte_at b 4) 3) ≡ b
+    → script_of (draft phases.Rows wants.Line (kind_at (byte_at b 0)) (byte_at b 1) (byte_at b 2) (byte_at b 3) (byte_at b 4) emits.Row) ≡ b
 unfolding script_of
 row-added b small h =
     subst
-    (λ (l : List ℕ). byte_at l 0 ∷ byte_at l 1 ∷ byte_at l 2 ∷ byte_at l 3 ∷ byte_at l 4 ∷ 0 ∷ 0 ∷ 0 ∷ [] ≡ l)
+    (λ (l : List ℕ). kind_number (kind_at (byte_at l 0)) ∷ byte_at l 1 ∷ byte_at l 2 ∷ byte_at l 3 ∷ byte_at l 4 ∷ 0 ∷ 0 ∷ 0 ∷ [] ≡ l)
     (bytes-row b small h)
     (ends (row_of b))

@@ -16,15 +16,16 @@ use Rattle.fields.proofs.Parts.{listed}
 use Rattle.reader.specs.Reader as reading
 use Rattle.lister.specs.{Body.lines_text, List.settings_text, List.script_text}
 use Rattle.assembler.specs.Desk.{State, stepped, runs, made}
-use Rattle.bothways.proofs.Rows as phases
+use Rattle.bothways.proofs.Rows as open_in
 use Rattle.bothways.proofs.{Between.Rest, Settings.settings-line, Unnamed.Unnamed, Unnamed.unnamed_runs}
 use Rattle.bothways.proofs.Body as body
 use Rattle.bothways.proofs.Nameless.{settings-nameless, lines-nameless, script-nameless}
 use Rattle.bothways.proofs.Lines.{Holds, Scripted, lines-add, rows-add}
+use Rattle.reader.specs.declared.kinds.Phase.TheVariants as phases
 
 -- from the settings to the fill, to the ROM, to the rows
 module _ (file : List ℕ) (f o s : Sheet) (k : State) where
-  to_fill : Rest 1 f o s k → Holds file body.fill f o s [] k
+  to_fill : Rest phases.Settings f o s k → Holds file body.fill f o s [] k
   unfolding puts
   to_fill r = r
 
@@ -35,8 +36,8 @@ module _ (file : List ℕ) (f o s : Sheet) (k : State) where
 
   to_rows : (l : List ℕ) → Holds file body.rom f o s l k → Scripted file f (puts o l) s [] k
   unfolding puts
-  to_rows [] r = (2, (phases.fill, r))
-  to_rows (x ∷ l) r = (3, (phases.rom, r))
+  to_rows [] r = (phases.Fill, (open_in.fill, r))
+  to_rows (x ∷ l) r = (phases.Rom, (open_in.rom, r))
 
 -- what the text of settings, fill, ROM and script says
 module _ (file a b c d : List ℕ) (sa : Bytes a) (sb : Bytes b) (sc : Bytes c) (sd : Bytes d) (two : length a ≡ 2) (least : 1 ≤ length b)
@@ -68,8 +69,8 @@ module _ (file a b c d : List ℕ) (sa : Bytes a) (sb : Bytes b) (sc : Bytes c) 
     abbrev k₃ : State
     k₃ = runs file k₂ (lines_text (codes "rom") c)
 
-    said_1 : Rest 1 (puts f a) o s k₁
-    said_1 = subst (λ (l : List ℕ). Rest 1 (puts f l) o s k₁) pair (settings-line number small file f o s)
+    said_1 : Rest phases.Settings (puts f a) o s k₁
+    said_1 = subst (λ (l : List ℕ). Rest phases.Settings (puts f l) o s k₁) pair (settings-line number small file f o s)
 
     said_2 : Holds file body.rom (puts (puts f a) b) o s [] k₂
     said_2 = to-rom file (puts f a) o s k₂ b least (lines-add file body.fill (puts f a) o s b sb k₁ (to_fill file (puts f a) o s k₁ said_1))

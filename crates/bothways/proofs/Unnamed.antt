@@ -3,37 +3,52 @@ use Prim.Native.Nat.{ℕ, ◌+◌}
 use mathlib.Core.Bool.{Bool, true, false, not, and-eq-true_iff}
 use mathlib.Core.List.{List, [], ◌∷◌, ◌++◌}
 use mathlib.Core.Path.{◌≡◌, refl, sym, subst}
-use native.Mathlib.Omega.{arith}
 use borrow.Author.Tests.{not-true}
-use lib.Dec.{eqb}
-use lib.ListN.{length}
 use Rattle.common.specs.Pick.{pick}
 use Rattle.reader.specs.declared.reader.Reader.{Reader}
-use Rattle.reader.specs.Reader.{read_of, reads, until_of, unnamed_of}
+use Rattle.reader.specs.Reader.{read_of, reads, until_from, name_at}
 use Rattle.assembler.specs.Desk.{State, stepped, runs}
 use Rattle.bothways.proofs.Quietly.{loud, calm, quietly, not-loud}
 use Rattle.bothways.proofs.{Rows.before, Between.quieted}
+use Rattle.reader.specs.declared.kinds.{Phase.Phase, Kind.Kind, Emit.Emit}
+use Rattle.reader.specs.declared.kinds.Emit.TheVariants as emits
+use Rattle.reader.specs.Draft.{has_failed, failed_by}
+use Rattle.reader.specs.Word.{in_name}
+use Rattle.std.specs.Prelude.{Option, Some, None}
+use Rattle.bothways.proofs.Quietly.{silent_by}
 
 abbrev pub Unnamed : Reader → List ℕ → Type 0
-Unnamed r t = unnamed_of r t ≡ length t
+Unnamed r t = name_at r t ≡ None
+
+abbrev from : ℕ → Reader → List ℕ → Option ℕ
+from = until_from (λ r c. in_name r.word)
 
 pub unnamed_none : (r : Reader) → Unnamed r []
-unfolding until_of
+unfolding until_from
 unnamed_none r = refl
 
--- one character more in front
-pub unnamed_next : (r : Reader) (c : ℕ) (t : List ℕ) → eqb r.word.form 8 ≡ false → Unnamed (read_of r c) t → Unnamed r (c ∷ t)
-unfolding until_of
-unnamed_next r c t z h = rw (z, h) (omega arith)
+named-not : (b : Bool) (i : ℕ) (o : Option ℕ) → pick b (Some i) o ≡ None → (b ≡ false) × (o ≡ None)
+named-not true i o e = absurd (cc)
+named-not false i o e = (refl, e)
 
-parts : (r : Reader) (c : ℕ) (t : List ℕ) → Unnamed r (c ∷ t) → (eqb r.word.form 8 ≡ false) × Unnamed (read_of r c) t
-unfolding until_of
-parts r c t h = go (eqb r.word.form 8) refl h
-  where
-    go : (b : Bool) → eqb r.word.form 8 ≡ b → pick b 0 (1 + unnamed_of (read_of r c) t) ≡ length (c ∷ t)
-        → (eqb r.word.form 8 ≡ false) × Unnamed (read_of r c) t
-    go true z e = absurd (omega arith)
-    go false z e = (z, omega arith)
+-- whatever the place of the first character is
+moved : (i j : ℕ) (r : Reader) (t : List ℕ) → from i r t ≡ None → from j r t ≡ None
+unfolding until_from
+moved i j r [] h = refl
+moved i j r (c ∷ t) h =
+    let s = named-not (in_name r.word) i (from (i + 1) (read_of r c) t) h in
+    rw s.0 (moved (i + 1) (j + 1) (read_of r c) t s.1)
+
+-- one character more in front
+pub unnamed_next : (r : Reader) (c : ℕ) (t : List ℕ) → in_name r.word ≡ false → Unnamed (read_of r c) t → Unnamed r (c ∷ t)
+unfolding until_from
+unnamed_next r c t z h = rw z (moved 0 1 (read_of r c) t h)
+
+parts : (r : Reader) (c : ℕ) (t : List ℕ) → Unnamed r (c ∷ t) → (in_name r.word ≡ false) × Unnamed (read_of r c) t
+unfolding until_from
+parts r c t h =
+    let s = named-not (in_name r.word) 0 (from 1 (read_of r c) t) h in
+    (s.0, moved 1 0 (read_of r c) t s.1)
 
 -- two texts one after the other
 pub unnamed_append : (r : Reader) (a b : List ℕ) → Unnamed r a → Unnamed (reads r a) b → Unnamed r (a ++ b)
@@ -52,11 +67,11 @@ pub unnamed_runs : (file : List ℕ) (k : State) (a b : List ℕ) → Unnamed k.
 unnamed_runs file k a b h g = unnamed_append k.reader a b h (subst (λ (r : Reader). Unnamed r b) (runs-reads file k a) g)
 
 -- what is read quietly has no name
-module _ (q : Reader) (fine : eqb q.draft.emit 8 ≡ false) where
+module _ (q : Reader) (fine : has_failed q.draft ≡ false) where
   quiet_step : (r : Reader) (c : ℕ) (t : List ℕ) (b : Bool) → calm r ≡ b → (quietly (read_of r c) t ≡ q → Unnamed (read_of r c) t)
       → pick b (quietly (read_of r c) t) loud ≡ q → Unnamed r (c ∷ t)
   quiet_step r c t true z ih e =
-      unnamed_next r c t (not-true (eqb r.word.form 8) ((and-eq-true_iff (eqb r.draft.emit 0) (not (eqb r.word.form 8))).0 z).1) (ih e)
+      unnamed_next r c t (not-true (in_name r.word) ((and-eq-true_iff (silent_by r.draft.emit) (not (in_name r.word))).0 z).1) (ih e)
   quiet_step r c t false z ih e = not-loud q fine e
 
   pub quietly_unnamed : (r : Reader) (t : List ℕ) → quietly r t ≡ q → Unnamed r t
@@ -65,11 +80,11 @@ module _ (q : Reader) (fine : eqb q.draft.emit 8 ≡ false) where
   quietly_unnamed r (c ∷ t) h = quiet_step r c t (calm r) refl (λ e. quietly_unnamed (read_of r c) t e) h
 
   -- a line starts anew
-  module _ (p k x₁ x₂ x₃ x₄ e : ℕ) (ok : eqb e 9 ≡ false) where
-    pub line_unnamed : (t : List ℕ) → quietly (before p k x₁ x₂ x₃ x₄ 0) t ≡ q → Unnamed (before p k x₁ x₂ x₃ x₄ e) t
+  module _ (p : Phase) (k : Kind) (x₁ x₂ x₃ x₄ : ℕ) (e : Emit) (ok : failed_by e ≡ false) where
+    pub line_unnamed : (t : List ℕ) → quietly (before p k x₁ x₂ x₃ x₄ emits.Nothing) t ≡ q → Unnamed (before p k x₁ x₂ x₃ x₄ e) t
     unfolding quietly
     line_unnamed [] h = unnamed_none (before p k x₁ x₂ x₃ x₄ e)
     line_unnamed (c ∷ t) h =
         unnamed_next (before p k x₁ x₂ x₃ x₄ e) c t refl
         (subst (λ (r : Reader). Unnamed r t) (sym (quieted p k x₁ x₂ x₃ x₄ e ok c))
-        (quietly_unnamed (read_of (before p k x₁ x₂ x₃ x₄ 0) c) t h))
+        (quietly_unnamed (read_of (before p k x₁ x₂ x₃ x₄ emits.Nothing) c) t h))

@@ -12,13 +12,14 @@ use Rattle.common.specs.Width.{Bytes}
 use Rattle.fields.specs.Little.{field}
 use Rattle.benchfile.specs.File.{file_check}
 use Rattle.benchfile.proofs.Built.{length-build}
-use Rattle.reader.specs.Reader.{start_of, unnamed_of}
+use Rattle.reader.specs.Reader.{start_of, name_at}
 use Rattle.lister.specs.List.{list_text}
 use Rattle.assembler.specs.Desk.{State, stepped, runs, opened, gathered}
 use Rattle.assembler.specs.Assemble.{said, left, assembled}
 use Rattle.bothways.proofs.{Lines.Scripted, Says.says, Says.nameless, Bound.there, Bound.finished-file, Finish.bodies}
 use Rattle.bothways.proofs.Room.{settings-short, lines-short, script-short}
 use Rattle.bothways.proofs.Sections as of
+use Rattle.std.specs.Prelude.{None}
 
 module _ (f : List ℕ) (small : Bytes f) (sound : file_check f ≡ 0) where
   abbrev settings : List ℕ
@@ -48,7 +49,7 @@ module _ (f : List ℕ) (small : Bytes f) (sound : file_check f ≡ 0) where
       simp length-append (omega (arith, l, of.short f small sound, of.two f small sound, a, b, c, d))
 
   -- and has no file name in it
-  pub no_name : unnamed_of start_of (list_text f) ≡ length (list_text f)
+  pub no_name : name_at start_of (list_text f) ≡ None
   unfolding list_text
   no_name =
       nameless [] settings ram image script (of.bytes f small sound 0) (of.bytes f small sound 1) (of.bytes f small sound 2) (of.bytes f small sound 3)

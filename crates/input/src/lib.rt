@@ -106,9 +106,11 @@ pub fn place_given(rt: HostRuntime, name: &[u8]) -> u32 {
     let mut buf = [0u8; 64];
     let n = argument(rt, 1, &mut buf);
     let word = part(&buf, 0, n);
-    let at = place(word);
-    if at > 131071 {
-        no_place(rt, name, word);
+    match place(word) {
+        Some(at) => at,
+        None => {
+            no_place(rt, name, word);
+            131072
+        }
     }
-    at
 }

@@ -1,30 +1,33 @@
 -- Characters of the text form (docs/BENCH.md), by their ASCII codes.
-use Rattle.std.specs.Prelude.{ℕ, ◌+◌, ◌*◌, ◌-◌, List, [], ◌∷◌}
+use Rattle.std.specs.Prelude.{ℕ, ◌+◌, ◌*◌, ◌-◌, Option, Some, None, List, [], ◌∷◌}
 use Prim.Native.Char.{code}
 use Prim.Native.String.{String, [] as []ˢ, ◌∷◌ as ◌∷ˢ◌}
 use Rattle.common.specs.{Pick.pick, Range.within}
 use Rattle.common.specs.Table.{Entry, find, at}
+use Rattle.reader.specs.declared.sign.Sign.{Sign}
+use Rattle.reader.specs.declared.sign.Sign.TheVariants.{LineEnd, Comment, Space, Dollar, Colon, Other}
 
--- 1 line feed; 2 `;`; 3 space, tab, carriage return, comma, `=`; 4 `$`; 5 `:`; 0 any other
-abbrev pub signs : List (Entry ℕ)
+abbrev pub signs : List (Entry Sign)
 signs =
-    at (code "\n") 1
-    ∷ at (code ";") 2
-    ∷ at (code " ") 3
-    ∷ at (code "\t") 3
-    ∷ at (code "\r") 3
-    ∷ at (code ",") 3
-    ∷ at (code "=") 3
-    ∷ at (code "$") 4
-    ∷ at (code ":") 5
+    at (code "\n") LineEnd
+    ∷ at (code ";") Comment
+    ∷ at (code " ") Space
+    ∷ at (code "\t") Space
+    ∷ at (code "\r") Space
+    ∷ at (code ",") Space
+    ∷ at (code "=") Space
+    ∷ at (code "$") Dollar
+    ∷ at (code ":") Colon
     ∷ []
 
-unfoldable pub sign_of : ℕ → ℕ
-sign_of c = find signs c 0
+unfoldable pub sign_of : ℕ → Sign
+sign_of c = find signs c Other
 
--- the value of 0-9, A-Z and a-z in base 36; 36 for any other character
-unfoldable pub digit_of : ℕ → ℕ
-digit_of c = pick (within 48 58 c) (c - 48) (pick (within 65 91 c) (c - 55) (pick (within 97 123 c) (c - 87) 36))
+-- the value of 0-9, A-Z and a-z in base 36
+unfoldable pub digit_of : ℕ → Option ℕ
+digit_of c =
+    pick (within 48 58 c) (Some (c - 48))
+    (pick (within 65 91 c) (Some (c - 55)) (pick (within 97 123 c) (Some (c - 87)) None))
 
 -- a word of small letters, behind those that came to v: each letter is a digit
 abbrev letters_of : ℕ → String → ℕ

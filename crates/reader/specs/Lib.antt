@@ -2,5 +2,6 @@
 pub mod Letter
 pub mod Word
 pub mod Draft
+pub mod Number
 pub mod Line
 pub mod Reader

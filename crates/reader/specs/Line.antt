@@ -1,80 +1,59 @@
 -- Words of a line of the text form (docs/BENCH.md), one after the other, and the line's end.
-use Rattle.std.specs.Prelude.{ℕ, ◌/◌, ◌%◌, Bool, ◌&&◌, ◌||◌, List, [], ◌∷◌, eqb, leb}
+use Rattle.std.specs.Prelude.{ℕ, Bool, true, false, Option, Some, None}
 use Rattle.common.specs.Pick.{pick}
-use Rattle.common.specs.Table.{Entry, find, at}
-use Rattle.reader.specs.declared.{draft.Draft.Draft, line.Place.Place}
-use Rattle.reader.specs.Draft.{draft, failed_of, keyword_of, option_of, switch_of, file_of}
+use Rattle.reader.specs.declared.{draft.Draft.Draft, word.Token.Token, kinds.Kind.Kind, kinds.Expected.Expected, kinds.Emit.Emit}
+use Rattle.reader.specs.declared.word.Token.TheVariants.{Letters, Number}
+use Rattle.reader.specs.declared.kinds.Kind.TheVariants as kind
+use Rattle.reader.specs.declared.kinds.Expected.TheVariants as next
+use Rattle.reader.specs.declared.kinds.Emit.TheVariants as emit
+use Rattle.reader.specs.Draft.{draft, failed_of, has_failed, keyword_of, option_of, switch_of, file_of}
+use Rattle.reader.specs.Number.{number_of}
 
--- the places of numbers: least, largest, what is expected behind it, which of its bytes go to b1, b2, b3 and b4 as document 01 lays
--- out the rows (1 the lowest; 0: none), and what it completes. Counts are 1 up; bytes of a fill or a ROM are complete as they come
-abbrev pub places : List (Entry Place)
-places =
-    at 1 (1, 65535, 2, 1, 2, 0, 0, 0)
-    ∷ at 3 (0, 255, 2, 0, 0, 1, 0, 0)
-    ∷ at 4 (0, 16777215, 18, 3, 1, 2, 0, 0)
-    ∷ at 5 (0, 255, 18, 0, 0, 0, 1, 0)
-    ∷ at 6 (0, 255, 7, 1, 0, 0, 0, 0)
-    ∷ at 7 (0, 65535, 18, 0, 1, 2, 0, 0)
-    ∷ at 8 (0, 65535, 5, 0, 1, 2, 0, 0)
-    ∷ at 10 (0, 65535, 18, 1, 2, 0, 0, 0)
-    ∷ at 11 (0, 255, 13, 1, 0, 0, 0, 1)
-    ∷ at 12 (0, 255, 19, 1, 0, 0, 0, 5)
-    ∷ at 13 (0, 255, 13, 1, 0, 0, 0, 1)
-    ∷ at 15 (1, 65535, 18, 1, 2, 0, 0, 0)
-    ∷ at 16 (0, 16777215, 5, 3, 1, 2, 0, 0)
-    ∷ at 17 (0, 255, 9, 1, 0, 0, 0, 0)
-    ∷ at 19 (0, 255, 19, 1, 0, 0, 0, 5)
-    ∷ []
-
--- where no number is expected, the least is over the largest
-abbrev pub expects : ℕ → Place
-expects s = find places s (1, 0, 18, 0, 0, 0, 0, 0)
-
--- the bytes of a number, lowest first
-abbrev pub bytes : ℕ → List (Entry ℕ)
-bytes v = at 1 (v % 256) ∷ at 2 (v / 256 % 256) ∷ at 3 (v / 65536 % 256) ∷ []
-
--- one of them, or what was there before
-abbrev pub byte_of : ℕ → ℕ → ℕ → ℕ
-byte_of w x v = find (bytes v) w x
-
--- a number where one is expected, in its range
-unfoldable pub number_of : Draft → ℕ → Draft
-number_of d v =
-    let p = expects d.state in
-    pick (leb p.0 v && leb v p.1)
-    (draft d.phase p.2 d.kind (byte_of p.3 d.b1 v) (byte_of p.4 d.b2 v) (byte_of p.5 d.b3 v) (byte_of p.6 d.b4 v) p.7)
-    (failed_of d)
+abbrev pub named_by : Expected → Draft → ℕ → Draft
+named_by next.Line d v = keyword_of d v
+named_by next.Options d v = option_of d v
+named_by next.OnOff d v = switch_of d v
+named_by next.RomByteOrFile d v = file_of d v
+named_by _ d v = failed_of d
 
 -- letters where they are expected
 unfoldable pub named_of : Draft → ℕ → Draft
-named_of d v =
-    pick (eqb d.state 0) (keyword_of d v)
-    (pick (eqb d.state 2) (option_of d v)
-    (pick (eqb d.state 9) (switch_of d v) (pick (eqb d.state 12) (file_of d v) (failed_of d))))
+named_of d v = named_by d.expected d v
 
--- a whole word: its sort (1 letters, 2 a number) and value
-unfoldable pub taken_of : Draft → ℕ → ℕ → Draft
-taken_of d s v = pick (eqb s 1) (named_of d v) (pick (eqb s 2) (number_of d v) (failed_of d))
+-- a whole word
+unfoldable pub taken_of : Draft → Option Token → Draft
+taken_of d (Some (Letters v)) = named_of d v
+taken_of d (Some (Number v)) = number_of d v
+taken_of d None = failed_of d
 
--- what a line's end completes: 2 settings, 3 row, 4 the ROM file
-abbrev pub closes : ℕ → List (Entry ℕ)
-closes e = at 8 2 ∷ at 9 e ∷ at 10 e ∷ at 11 4 ∷ []
-
-abbrev pub closed_of : ℕ → ℕ → ℕ
-closed_of k e = find (closes e) k 3
+-- what a line's end completes
+abbrev pub closed_of : Kind → Emit → Emit
+closed_of kind.Bitcycles e = emit.Settings
+closed_of kind.Fill e = e
+closed_of kind.Rom e = e
+closed_of kind.RomFile e = emit.RomFile
+closed_of _ e = emit.Row
 
 -- a line may end behind its options, its bytes, or where its end is expected
-abbrev pub ends_of : ℕ → Bool
-ends_of s = eqb s 2 || eqb s 13 || eqb s 18 || eqb s 19
+abbrev pub ends_of : Expected → Bool
+ends_of next.Options = true
+ends_of next.MoreFill = true
+ends_of next.End = true
+ends_of next.MoreRom = true
+ends_of _ = false
 
 -- the end of a line with words
 unfoldable pub closing_of : Draft → Draft
 closing_of d =
-    pick (ends_of d.state)
-    (draft d.phase 0 d.kind d.b1 d.b2 d.b3 d.b4 (closed_of d.kind d.emit))
+    pick (ends_of d.expected)
+    (draft d.phase next.Line d.kind d.b1 d.b2 d.b3 d.b4 (closed_of d.kind d.emit))
     (failed_of d)
+
+-- whether nothing was read since the line began
+abbrev pub fresh : Expected → Bool
+fresh next.Line = true
+fresh _ = false
 
 -- the line's end; an empty line is nothing
 unfoldable pub line_of : Draft → Draft
-line_of d = pick (eqb d.emit 9) d (pick (eqb d.state 0) d (closing_of d))
+line_of d = pick (has_failed d) d (pick (fresh d.expected) d (closing_of d))

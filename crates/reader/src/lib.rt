@@ -2,8 +2,12 @@
 #![tactic(auto)]
 
 pub mod draft;
+pub mod kinds;
 pub mod letter;
 pub mod line;
+mod names;
+pub mod number;
 pub mod reader;
+pub mod sign;
 pub mod text;
 pub mod word;

@@ -1,13 +1,15 @@
 // One character of the text.
 ghost use Rattle.std.specs.Prelude.{◌≡◌};
-ghost use Rattle.reader.specs.Reader.{start_of, quiet_of, idle_of, shut_of, gap_of, spaced_of, naming_of, plain_of, step_of, read_of};
+ghost use Rattle.reader.specs.Reader.{reader, start_of, quiet_of, idle_of, shut_of, gap_of, spaced_of, naming_of, plain_of, step_of, read_of};
 
-use crate::draft::Draft;
+use crate::draft::{Draft, has_failed};
+use crate::kinds::{Emit, Expected, Kind, Phase};
 use crate::letter::{digit, sign};
 use crate::line::{line_end, taken};
-use crate::word::{Word, blank, colon, dollar, letter, sort, worth};
+use crate::sign::Sign;
+use crate::word::{Form, Word, blank, colon, dollar, letter, meaning};
 
-#[derive(Clone, Copy)]
+#[derive(Clone, Copy, PartialEq, Eq, Debug)]
 pub struct Reader {
     pub word: Word,
     pub draft: Draft,
@@ -18,147 +20,127 @@ pub fn start() -> Reader
     ensures { result ≡ start_of }
 {
     Reader {
-        word: Word {
-            form: 0,
-            value: 0,
-            bank: 0,
-        },
+        word: blank(Form::Between),
         draft: Draft {
-            phase: 0,
-            state: 0,
-            kind: 0,
+            phase: Phase::Nothing,
+            expected: Expected::Line,
+            kind: Kind::Nothing,
             b1: 0,
             b2: 0,
             b3: 0,
             b4: 0,
-            emit: 0,
+            emit: Emit::Nothing,
         },
     }
 }
 
-fn quiet(d: Draft) -> Draft
-    ensures { result ≡ quiet_of d }
+// What was completed before is done with.
+fn quiet(r: Reader) -> Reader
+    ensures { result ≡ reader r.word (quiet_of r.draft) }
 {
-    let mut r = d;
-    r.emit = 0;
-    r
+    Reader {
+        draft: Draft {
+            emit: Emit::Nothing,
+            ..r.draft
+        },
+        ..r
+    }
 }
 
 // A form that is no word: between words, comment, file name.
-fn idle(form: u8) -> bool
+fn idle(form: Form) -> bool
     ensures { result ≡ idle_of form }
 {
-    (form == 0) | (form == 7) | (form == 8)
+    matches!(form, Form::Between | Form::Comment | Form::Name)
 }
 
 // The draft when the word ends.
 #[tactic(auto, unfolding(crate::specs::Reader::shut_of))]
-fn shut(w: Word, d: Draft) -> Draft
-    ensures { result ≡ shut_of w d }
+fn shut(r: Reader) -> Draft
+    ensures { result ≡ shut_of r.word r.draft }
 {
-    if idle(w.form) {
-        return d;
+    if idle(r.word.form) {
+        return r.draft;
     }
-    let s = sort(w.form);
-    let v = worth(w);
-    taken(d, s, v)
-}
-
-fn gap(state: u8) -> u8
-    ensures { result ≡ gap_of state }
-{
-    match state {
-        14 => 8,
-        _ => 0,
-    }
+    taken(r.draft, meaning(r.word))
 }
 
 // Behind `file` all up to the line's end or a comment is the name.
-#[tactic(auto, unfolding(crate::specs::Reader::spaced_of))]
-fn spaced(w: Word, d: Draft) -> Reader
-    ensures { result ≡ spaced_of w d }
+fn gap(expected: Expected) -> Form
+    ensures { result ≡ gap_of expected }
 {
-    let next = shut(w, d);
-    let form = gap(next.state);
-    let none = blank(form);
+    match expected {
+        Expected::FileName => Form::Name,
+        _ => Form::Between,
+    }
+}
+
+#[tactic(auto, unfolding(crate::specs::Reader::spaced_of))]
+fn spaced(r: Reader) -> Reader
+    ensures { result ≡ spaced_of r.word r.draft }
+{
+    let draft = shut(r);
     Reader {
-        word: none,
-        draft: next,
+        word: blank(gap(draft.expected)),
+        draft,
     }
 }
 
 // A character of a file name.
 #[tactic(auto, unfolding(crate::specs::Reader::naming_of))]
-fn naming(w: Word, d: Draft, s: u8) -> Reader
-    ensures { result ≡ naming_of w d s }
+fn naming(r: Reader, s: Sign) -> Reader
+    ensures { result ≡ naming_of r.word r.draft s }
 {
-    if s == 2 {
-        let none = blank(7);
-        return Reader {
-            word: none,
-            draft: d,
-        };
-    }
-    let mut next = d;
-    if s != 3 {
-        next.state = 18;
-    }
-    Reader {
-        word: w,
-        draft: next,
+    match s {
+        Sign::Comment => Reader {
+            word: blank(Form::Comment),
+            ..r
+        },
+        Sign::Space => r,
+        _ => Reader {
+            draft: Draft {
+                expected: Expected::End,
+                ..r.draft
+            },
+            ..r
+        },
     }
 }
 
 // A character of a word or a number.
 #[tactic(auto, unfolding(crate::specs::Reader::plain_of))]
-fn plain(w: Word, s: u8, c: u8) -> Word
+fn plain(w: Word, s: Sign, c: u8) -> Word
     ensures { result ≡ plain_of w s c }
 {
-    if s == 4 {
-        return dollar(w);
+    match (s, digit(c)) {
+        (Sign::Dollar, _) => dollar(w),
+        (Sign::Colon, _) => colon(w),
+        (_, Some(d)) => letter(w, d),
+        (_, None) => blank(Form::Bad),
     }
-    if s == 5 {
-        return colon(w);
-    }
-    let d = digit(c);
-    letter(w, d)
 }
 
 // A character of sign s, where nothing has failed.
 #[tactic(auto, unfolding(crate::specs::Reader::step_of))]
-fn step(w: Word, d: Draft, s: u8, c: u8) -> Reader
-    ensures { result ≡ step_of w d s c }
+fn step(r: Reader, s: Sign, c: u8) -> Reader
+    ensures { result ≡ step_of r.word r.draft s c }
 {
-    if s == 1 {
-        let done = shut(w, d);
-        let next = line_end(done);
-        let none = blank(0);
-        return Reader {
-            word: none,
-            draft: next,
-        };
-    }
-    if w.form == 7 {
-        return Reader { word: w, draft: d };
-    }
-    if w.form == 8 {
-        return naming(w, d, s);
-    }
-    if s == 2 {
-        let done = shut(w, d);
-        let none = blank(7);
-        return Reader {
-            word: none,
-            draft: done,
-        };
-    }
-    if s == 3 {
-        return spaced(w, d);
-    }
-    let next = plain(w, s, c);
-    Reader {
-        word: next,
-        draft: d,
+    match (s, r.word.form) {
+        (Sign::LineEnd, _) => Reader {
+            word: blank(Form::Between),
+            draft: line_end(shut(r)),
+        },
+        (_, Form::Comment) => r,
+        (_, Form::Name) => naming(r, s),
+        (Sign::Comment, _) => Reader {
+            word: blank(Form::Comment),
+            draft: shut(r),
+        },
+        (Sign::Space, _) => spaced(r),
+        _ => Reader {
+            word: plain(r.word, s, c),
+            ..r
+        },
     }
 }
 
@@ -167,12 +149,8 @@ fn step(w: Word, d: Draft, s: u8, c: u8) -> Reader
 pub fn read(r: Reader, c: u8) -> Reader
     ensures { result ≡ read_of r c }
 {
-    let before = r.draft;
-    if before.emit == 9 {
+    if has_failed(r.draft) {
         return r;
     }
-    let d = quiet(before);
-    let w = r.word;
-    let s = sign(c);
-    step(w, d, s, c)
+    step(quiet(r), sign(c), c)
 }

@@ -1,54 +1,42 @@
 // A whole text: what it leaves, where it fails, where a file name starts.
 ghost use Rattle.std.specs.Prelude.{◌≡◌};
-ghost use Rattle.reader.specs.Reader.{start_of, reads, sound_of, unnamed_of};
+ghost use Rattle.reader.specs.Reader.{start_of, reads, fault_of, name_at};
 
+use crate::draft::has_failed;
 use crate::reader::{Reader, read, start};
+use crate::word::in_name;
 
+#[tactic(auto, unfolding(crate::specs::Reader::reads))]
 pub fn read_all(text: &[u8]) -> Reader
     ensures { result ≡ reads start_of text.now }
 {
-    let mut r = start();
-    let mut i = 0;
-    while i < text.len() {
-        let c = text[i];
-        r = read(r, c);
-        i += 1;
-    }
-    r
+    text.iter().fold(start(), |r, c| read(r, *c))
 }
 
-// The place of the character at which the text fails; its length, if it does not.
-pub fn fault(text: &[u8]) -> usize
-    ensures { result ≡ sound_of start_of text.now }
+// The place of the character at which the text fails.
+pub fn fault(text: &[u8]) -> Option<usize>
+    ensures { result ≡ fault_of start_of text.now }
 {
     let mut r = start();
-    let mut i = 0;
-    while i < text.len() {
-        let c = text[i];
-        r = read(r, c);
-        let d = r.draft;
-        if d.emit == 9 {
-            return i;
+    for (i, c) in text.iter().enumerate() {
+        r = read(r, *c);
+        if has_failed(r.draft) {
+            return Some(i);
         }
-        i += 1;
     }
-    i
+    None
 }
 
-// The place behind `rom file`, where a name starts; the text's length, if there is none.
-pub fn name_at(text: &[u8]) -> usize
-    ensures { result ≡ unnamed_of start_of text.now }
+// The place behind `rom file`, where a name starts.
+pub fn name_at(text: &[u8]) -> Option<usize>
+    ensures { result ≡ name_at start_of text.now }
 {
     let mut r = start();
-    let mut i = 0;
-    while i < text.len() {
-        let w = r.word;
-        if w.form == 8 {
-            return i;
+    for (i, c) in text.iter().enumerate() {
+        if in_name(r.word) {
+            return Some(i);
         }
-        let c = text[i];
-        r = read(r, c);
-        i += 1;
+        r = read(r, *c);
     }
-    i
+    None
 }

@@ -1,55 +1,87 @@
 // A word while it is read: its form, its value so far, and the bank before a colon.
 ghost use Rattle.std.specs.Prelude.{◌≡◌};
-ghost use Rattle.reader.specs.Word.{blank_word, base_of, after_of, opened_of, grown_of, letter_of, dollar_of, colon_of, sort_of, worth_of};
+ghost use Rattle.reader.specs.Word.{blank_word, in_name, base_of, after_of, opened_of, grown_of, letter_of, dollar_of, colon_of, banked_of, meaning_of};
 
-// Forms: 0 between words, 1 letters, 2 `$`, 3 `$` and digits, 4 `:` behind these, 5 digits behind it, 6 decimal digits,
-// 7 comment, 8 file name, 9 no word at all. Letters count in base 36, so that a word's value names it.
-#[derive(Clone, Copy)]
+#[derive(Clone, Copy, PartialEq, Eq, Debug)]
+pub enum Form {
+    // Between words.
+    Between,
+    Letters,
+    // `$` alone, and with digits behind it.
+    Dollar,
+    Hex,
+    // `:` behind these, and with digits behind it.
+    Colon,
+    Banked,
+    Decimal,
+    // Characters of a comment, and of a file name.
+    Comment,
+    Name,
+    // No word at all.
+    Bad,
+}
+
+// Letters count in base 36, so that a word's value names it.
+#[derive(Clone, Copy, PartialEq, Eq, Debug)]
 pub struct Word {
-    pub form: u8,
+    pub form: Form,
     pub value: u64,
     pub bank: u64,
 }
 
-pub fn blank(form: u8) -> Word
+// What a whole word is.
+#[derive(Clone, Copy, PartialEq, Eq, Debug)]
+pub enum Token {
+    Letters(u64),
+    Number(u64),
+}
+
+pub fn blank(form: Form) -> Word
     ensures { result ≡ blank_word form }
 {
     Word {
-        form: form,
+        form,
         value: 0,
         bank: 0,
     }
 }
 
-fn base(form: u8) -> u8
+pub fn in_name(w: Word) -> bool
+    ensures { result ≡ in_name w }
+{
+    matches!(w.form, Form::Name)
+}
+
+fn base(form: Form) -> u8
     ensures { result ≡ base_of form }
 {
     match form {
-        1 => 36,
-        6 => 10,
+        Form::Letters => 36,
+        Form::Decimal => 10,
         _ => 16,
     }
 }
 
 // The form with one digit more.
-fn after(form: u8) -> u8
+fn after(form: Form) -> Form
     ensures { result ≡ after_of form }
 {
     match form {
-        2 => 3,
-        4 => 5,
+        Form::Dollar => Form::Hex,
+        Form::Colon => Form::Banked,
         _ => form,
     }
 }
 
 // The first character of a word tells letters and decimal digits apart.
-fn opened(form: u8, d: u8) -> u8
+fn opened(form: Form, d: u8) -> Form
     ensures { result ≡ opened_of form d }
 {
-    if form == 0 {
-        return if d < 10 { 6 } else { 1 };
+    match form {
+        Form::Between if d < 10 => Form::Decimal,
+        Form::Between => Form::Letters,
+        _ => form,
     }
-    form
 }
 
 // A value of 2^56 or more is no word's and no number's; it grows no further.
@@ -70,15 +102,13 @@ pub fn letter(w: Word, d: u8) -> Word
     let form = opened(w.form, d);
     let by = base(form);
     if d < by {
-        let next = after(form);
-        let value = grown(w.value, by, d);
         return Word {
-            form: next,
-            value: value,
-            bank: w.bank,
+            form: after(form),
+            value: grown(w.value, by, d),
+            ..w
         };
     }
-    blank(9)
+    blank(Form::Bad)
 }
 
 // `$` stands in front of a number.
@@ -86,7 +116,10 @@ pub fn letter(w: Word, d: u8) -> Word
 pub fn dollar(w: Word) -> Word
     ensures { result ≡ dollar_of w }
 {
-    if w.form == 0 { blank(2) } else { blank(9) }
+    match w.form {
+        Form::Between => blank(Form::Dollar),
+        _ => blank(Form::Bad),
+    }
 }
 
 // `:` stands between bank and address.
@@ -94,41 +127,34 @@ pub fn dollar(w: Word) -> Word
 pub fn colon(w: Word) -> Word
     ensures { result ≡ colon_of w }
 {
-    if w.form == 3 {
-        return Word {
-            form: 4,
+    match w.form {
+        Form::Hex => Word {
+            form: Form::Colon,
             value: 0,
             bank: w.value,
-        };
-    }
-    blank(9)
-}
-
-// What a word is: 1 letters, 2 a number, 0 neither.
-pub fn sort(form: u8) -> u8
-    ensures { result ≡ sort_of form }
-{
-    match form {
-        1 => 1,
-        3 => 2,
-        5 => 2,
-        6 => 2,
-        _ => 0,
+        },
+        _ => blank(Form::Bad),
     }
 }
 
-// The number of a word; $100:0000 and $00:10000 are too large for any place.
-#[tactic(auto, unfolding(crate::specs::Word::worth_of))]
-pub fn worth(w: Word) -> u64
-    ensures { result ≡ worth_of w }
+// $100:0000 and $00:10000 are no numbers.
+fn banked(bank: u64, value: u64) -> Option<Token>
+    ensures { result ≡ banked_of bank value }
 {
-    if w.form == 5 {
-        if w.bank <= 255 {
-            if w.value <= 65535 {
-                return w.bank * 65536 + w.value;
-            }
-        }
-        return 16777216;
+    if bank <= 255 && value <= 65535 {
+        return Some(Token::Number(bank * 65536 + value));
     }
-    w.value
+    None
+}
+
+#[tactic(auto, unfolding(crate::specs::Word::meaning_of))]
+pub fn meaning(w: Word) -> Option<Token>
+    ensures { result ≡ meaning_of w }
+{
+    match w.form {
+        Form::Letters => Some(Token::Letters(w.value)),
+        Form::Hex | Form::Decimal => Some(Token::Number(w.value)),
+        Form::Banked => banked(w.bank, w.value),
+        _ => None,
+    }
 }

@@ -1,26 +1,40 @@
--- Marks in a text (docs/BENCH.md): characters that end a line, start a comment or part words; or those that do not.
-use Rattle.std.specs.Prelude.{ℕ, ◌+◌, min, Bool, not, ◌&&◌, List, [], ◌∷◌, leb, length}
-use Rattle.common.specs.Pick.{pick}
+-- Characters that part a text (docs/BENCH.md) into lines and words, and where they stand.
+use Rattle.std.specs.Prelude.{ℕ, ◌-◌, Bool, true, false, List, length, position, reverse, unwrap_or}
 use Rattle.reader.specs.Letter.{sign_of}
-use Rattle.textual.specs.declared.mark.Marks.{Marks}
+use Rattle.reader.specs.declared.sign.Sign.{Sign}
+use Rattle.reader.specs.declared.sign.Sign.TheVariants.{LineEnd, Comment, Space}
 
--- a sign from 1 up to the most: line ends, with comments from 2 on, with spaces from 3 on
-abbrev pub among : ℕ → ℕ → Bool
-among most k = leb 1 k && leb k most
+abbrev pub is_end : Sign → Bool
+is_end LineEnd = true
+is_end _ = false
 
--- whether a character is looked for: its sign is among them; or it is not
-unfoldable pub wanted_of : ℕ → Bool → ℕ → Bool
-wanted_of most inside c = pick inside (among most (sign_of c)) (not (among most (sign_of c)))
+abbrev pub is_close : Sign → Bool
+is_close LineEnd = true
+is_close Comment = true
+is_close _ = false
 
--- one more of them, at place i and with the next place behind it; numbers stop at 2^32
-abbrev pub marked : Marks → ℕ → ℕ → Marks
-marked m i next = record { next = min (m.next + 1) 4294967296; first = min m.first i; behind = next }
+abbrev pub is_part : Sign → Bool
+is_part LineEnd = true
+is_part Comment = true
+is_part Space = true
+is_part _ = false
 
--- those in a text, whose first character has place i
-unfoldable pub marks_from : ℕ → Bool → List ℕ → ℕ → Marks → Marks
-marks_from most inside [] i m = m
-marks_from most inside (c ∷ t) i m = marks_from most inside t (i + 1) (pick (wanted_of most inside c) (marked m i (i + 1)) m)
+-- a line's end
+unfoldable pub ends_line : ℕ → Bool
+ends_line c = is_end (sign_of c)
 
--- those in a whole text: one more than how many, the place of the first (the text's end, if there is none), the place behind the last
-unfoldable pub marks_of : ℕ → Bool → List ℕ → Marks
-marks_of most inside t = marks_from most inside t 0 (record { next = 1; first = length t; behind = 0 })
+-- or the start of a comment
+unfoldable pub closes : ℕ → Bool
+closes c = is_close (sign_of c)
+
+-- or a space
+unfoldable pub parts : ℕ → Bool
+parts c = is_part (sign_of c)
+
+-- the place of the first character that passes a test; the text's end, if none does
+abbrev pub first : (ℕ → Bool) → List ℕ → ℕ
+first p t = unwrap_or (position p t) (length t)
+
+-- the place behind the last character that passes; the text's start, if none does
+abbrev pub behind_last : (ℕ → Bool) → List ℕ → ℕ
+behind_last p t = length t - first p (reverse t)

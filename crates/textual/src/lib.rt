@@ -38,8 +38,11 @@ fn with_file(rt: HostRuntime, text: &[u8], name: &[u8]) {
 }
 
 fn with_rom(rt: HostRuntime, text: &[u8]) {
-    let name = name_in(text, name_at(text));
-    if name.len() == 0 {
+    let name = match name_at(text) {
+        Some(at) => name_in(text, at),
+        None => b"",
+    };
+    if name.is_empty() {
         assembled(rt, text, name);
     } else {
         with_file(rt, text, name);

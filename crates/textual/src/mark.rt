@@ -1,70 +1,50 @@
-// Marks in a text: characters that end a line, start a comment or part words; or those that do not.
-ghost use Rattle.std.specs.Prelude.{◌+◌, min, ◌≡◌};
-ghost use Rattle.common.specs.Pick.{pick};
-ghost use Rattle.textual.specs.Mark.{wanted_of, marked, marks_of};
+// Characters that part a text into lines and words, and where they stand.
+ghost use Rattle.std.specs.Prelude.{◌+◌, count_by, position, reverse, ◌≡◌};
+ghost use Rattle.textual.specs.Mark.{ends_line, closes, parts, behind_last};
 
 use reader::letter::sign;
+use reader::sign::Sign;
 
-// The number that the next of them would have, where the first stands, and the place behind the last.
-#[derive(Clone, Copy)]
-pub struct Marks {
-    pub next: u64,
-    pub first: usize,
-    pub behind: usize,
+#[tactic(auto, unfolding(crate::specs::Mark::ends_line))]
+fn ends_line(c: u8) -> bool
+    ensures { result ≡ ends_line c }
+{
+    matches!(sign(c), Sign::LineEnd)
 }
 
-// Signs 1 up to `most`: line ends, with comments from 2 on, with spaces from 3 on. Where `inside` is not set, all others.
-fn wanted(c: u8, most: u8, inside: bool) -> bool
-    ensures { result ≡ wanted_of most inside c }
+// A line's end, or the start of a comment.
+#[tactic(auto, unfolding(crate::specs::Mark::closes))]
+pub fn closes(c: u8) -> bool
+    ensures { result ≡ closes c }
 {
-    let k = sign(c);
-    let among = (1 <= k) & (k <= most);
-    if inside {
-        return among;
-    }
-    !among
+    matches!(sign(c), Sign::LineEnd | Sign::Comment)
 }
 
-fn counted(n: u64) -> u64
-    ensures { result ≡ min (n + 1) 4294967296 }
+// These, or a space.
+#[tactic(auto, unfolding(crate::specs::Mark::parts))]
+pub fn parts(c: u8) -> bool
+    ensures { result ≡ parts c }
 {
-    if n < 4294967296 { n + 1 } else { 4294967296 }
+    matches!(sign(c), Sign::LineEnd | Sign::Comment | Sign::Space)
 }
 
-fn nearer(a: usize, b: usize) -> usize
-    ensures { result ≡ min a b }
+// The number of the line that begins or goes on behind the text.
+pub fn line_number(text: &[u8]) -> u64
+    ensures { result ≡ count_by ends_line text.now + 1 }
 {
-    if a < b { a } else { b }
+    text.iter().filter(|c| ends_line(**c)).count() as u64 + 1
 }
 
-// Where a wanted one stands here.
-fn passed(m: Marks, wanted: bool, here: usize, next: usize) -> Marks
-    ensures { result ≡ pick wanted (marked m here next) m }
+// How many characters stand behind the last that parts words.
+fn word_length(text: &[u8]) -> Option<usize>
+    ensures { result ≡ position parts (reverse text.now) }
 {
-    if wanted {
-        return Marks {
-            next: counted(m.next),
-            first: nearer(m.first, here),
-            behind: next,
-        };
-    }
-    m
+    text.iter().rev().position(|c| parts(*c))
 }
 
-pub fn marks_in(s: &[u8], most: u8, inside: bool) -> Marks
-    ensures { result ≡ marks_of most inside s.now }
+// Where the last word of a text starts.
+pub fn last_word(text: &[u8]) -> usize
+    ensures { result ≡ behind_last parts text.now }
 {
-    let mut m = Marks {
-        next: 1,
-        first: s.len(),
-        behind: 0,
-    };
-    let mut i = 0;
-    while i < s.len() {
-        let here = i;
-        i += 1;
-        let one = wanted(s[here], most, inside);
-        m = passed(m, one, here, i);
-    }
-    m
+    text.len() - word_length(text).unwrap_or(text.len())
 }

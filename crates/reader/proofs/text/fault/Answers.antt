@@ -1,19 +1,19 @@
-use Rattle.std.proofs.Common.{◌∙◌, sym, ap, eqb, eq-eqb, ne_eqb, zero-add}
+use Rattle.std.proofs.Common.{◌∙◌, sym, ap}
 use Rattle.reader.specs.declared.reader.Reader.{Reader}
+use Rattle.reader.specs.Draft.{has_failed}
 use Rattle.reader.proofs.Walk.{until_here, until_next, until_none}
 use Rattle.reader.proofs.text.fault.Goals as goal
 
-pub returns-then-d-eq9 : goal.returns-then-d-eq9
-returns-then-d-eq9 c =
+pub returns-then-has_failed : goal.returns-then-has_failed
+returns-then-has_failed c =
     sym
-    (sym (zero-add _)
-    ∙ c.loop-i.invariant
-    ∙ until_here _ _ _ _ c.loop-i-test.true (ap (λ (x : Reader). eqb x.draft.emit 9) (sym c.read-r.ensures) ∙ eq-eqb _ _ c.if-d-eq9.true))
+    (c.loop-i.invariant
+    ∙ until_here _ _ _ _ c.loop-i-test.true (ap (λ (x : Reader). has_failed x.draft) (sym c.read-r.ensures) ∙ sym c.has_failed.ensures ∙ c.if-has_failed.true))
 
 pub loop-i-preserved : goal.loop-i-preserved
 loop-i-preserved c =
     c.loop-i.invariant
-    ∙ until_next _ _ _ _ c.loop-i-test.true c.read-r.ensures (ap (λ (x : Reader). eqb x.draft.emit 9) (sym c.read-r.ensures) ∙ ne_eqb _ _ c.if-d-eq9.false)
+    ∙ until_next _ _ _ _ c.loop-i-test.true c.read-r.ensures (ap (λ (x : Reader). has_failed x.draft) (sym c.read-r.ensures) ∙ sym c.has_failed.ensures ∙ c.if-has_failed.false)
 
 pub returns : goal.returns
-returns c = sym (sym (zero-add _) ∙ c.loop-i.invariant ∙ until_none _ _ _ _ c.loop-i-test.false)
+returns c = sym (c.loop-i.invariant ∙ until_none _ _ _ _ c.loop-i-test.false)

@@ -9,10 +9,7 @@ ghost use Rattle.cartridge.specs.Cartridge.{rom_offset, rom_place, rom_byte, rom
 fn offset(bank: u8, addr: u16) -> usize
     ensures { result ≡ rom_offset bank addr }
 {
-    if addr < 0x8000 {
-        return (bank % 128) as usize * 32768;
-    }
-    (bank % 128) as usize * 32768 + (addr - 0x8000) as usize
+    (bank % 128) as usize * 32768 + addr.saturating_sub(0x8000) as usize
 }
 
 // Where an offset lies in a ROM of `len` bytes. Each remainder is by a constant, so that no division is made.
@@ -41,18 +38,13 @@ pub fn read(rom: &[u8], bank: u8, addr: u16, openbus: u8) -> u8
         return openbus;
     }
     let at = place(rom.len(), offset(bank, addr));
-    if at < rom.len() { rom[at] } else { openbus }
+    rom.get(at).copied().unwrap_or(openbus)
 }
 
 // Cycles of an access: fast where MEMSEL says so, from $8000 up in banks $80-$FF.
 pub fn cost(memsel: u8, bank: u8, addr: u16) -> u8
     ensures { result ≡ rom_cost memsel bank addr }
 {
-    if addr < 0x8000 {
-        return 8;
-    }
-    if bank < 0x80 {
-        return 8;
-    }
-    if memsel & 1 == 0 { 8 } else { 6 }
+    let fast = 0x8000 <= addr && 0x80 <= bank && memsel & 1 != 0;
+    if fast { 6 } else { 8 }
 }

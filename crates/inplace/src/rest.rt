@@ -10,7 +10,6 @@ ghost use Rattle.inplace.specs.Rest.{ticking, counting, rested};
 
 use asbytes::bytes::{kept_at, length_at, put_counts, put_eight, put_head, slot_at};
 use asbytes::{ACCESSES, ACCESSES_SIZE};
-use common::less::less_one;
 use fields::word::byte;
 use fields::{four_bytes, put};
 use layout::{CLOCK, ENTRY_SIZE, NMI, WAIT, capacity};
@@ -22,7 +21,7 @@ fn tick(s: &mut [u8], nmi: bool, wait: u32, clock: u64)
 {
     let line = [nmi as u8];
     put(s, NMI, &line);
-    let left = less_one(wait);
+    let left = wait.saturating_sub(1);
     let four = four_bytes(left);
     put(s, WAIT, &four);
     let next = std::num::wrapping_add_u64(clock, 1);

@@ -6,7 +6,7 @@ use crate::who::Who;
 use bus::access::Access;
 use bus::route::{Route, place_of, route_of};
 use common::u16_split::{with_high, with_low};
-use registers::wm_address::{WmAddress, bank_from, inc};
+use registers::wm_address::{WmAddBank, WmAddress, inc};
 use wram::Place;
 
 // `spot` is the byte's offset in work RAM, 131,072 for none; `after` is WMADD after the access.
@@ -65,7 +65,7 @@ fn wm_written(w: WmAddress, addr: u16, byte: u8) -> WmAddress
             addr: with_high(w.addr, byte),
         },
         0x2183 => {
-            let b = bank_from(byte);
+            let b = WmAddBank::from(byte);
             WmAddress {
                 bank: b,
                 addr: w.addr,

@@ -11,14 +11,14 @@ low_first (suc k) i x =
     let next : x / 256 ^ suc i / 256 ≡ x / 256 ^ suc (suc i) = div-div-eq-div-mul x (256 ^ suc i) 256 ∙ ap (λ (n : ℕ). x / n) (sym (pow-suc 256 (suc i))) in
     ap (λ (l : List ℕ). x / 256 ^ suc i % 256 ∷ l) (low_first k (suc i) x ∙ ap (le k) (sym next))
 
-pub le-two : (x : ℕ) → to_le_bytes w16 x ≡ le 2 x
-le-two x = ap (λ (l : List ℕ). x % 256 ∷ l) (low_first 1 0 x)
+pub le_two : (x : ℕ) → to_le_bytes w16 x ≡ le 2 x
+le_two x = ap (λ (l : List ℕ). x % 256 ∷ l) (low_first 1 0 x)
 
-pub le-four : (x : ℕ) → to_le_bytes w32 x ≡ le 4 x
-le-four x = ap (λ (l : List ℕ). x % 256 ∷ l) (low_first 3 0 x)
+pub le_four : (x : ℕ) → to_le_bytes w32 x ≡ le 4 x
+le_four x = ap (λ (l : List ℕ). x % 256 ∷ l) (low_first 3 0 x)
 
-pub le-eight : (x : ℕ) → to_le_bytes w64 x ≡ le 8 x
-le-eight x = ap (λ (l : List ℕ). x % 256 ∷ l) (low_first 7 0 x)
+pub le_eight : (x : ℕ) → to_le_bytes w64 x ≡ le 8 x
+le_eight x = ap (λ (l : List ℕ). x % 256 ∷ l) (low_first 7 0 x)
 
 -- one byte more
 pub span-suc : (n k : ℕ) (s : List ℕ) → span (suc n) s k ≡ span n s k ++ (get_or s (k + n) 0 ∷ [])

@@ -3,4 +3,4 @@ use Rattle.inplace.proofs.onebyte.place_at.Goals as goal
 
 pub returns : goal.returns
 unfolding place_for
-returns c = simp (c.place_of.ensures, c.wmadd_in-wmadd.ensures, c.route_of-way.ensures)
+returns c = simp (c.place_of.ensures, c.wmadd_in.ensures, c.route_of.ensures)

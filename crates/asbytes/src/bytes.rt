@@ -28,16 +28,7 @@ pub fn head(s: &[u8]) -> &[u8]
     }
 }
 
-// The same bytes; zeros, where there are too few.
-pub fn head_bytes(s: &[u8]) -> [u8; IMAGE_SIZE]
-    ensures { result ≡ head_of s.now }
-{
-    let mut e = [0; IMAGE_SIZE];
-    put(&mut e, 0, head(s));
-    e
-}
-
-// The same, straight over the first bytes of `part`.
+// It, or zeros where there are too few bytes, straight over the first bytes of `part`.
 pub fn put_head(part: &mut [u8], s: &[u8])
     ensures { part.new ≡ patched part.old 0 (head_of s.now) }
 {
@@ -46,6 +37,15 @@ pub fn put_head(part: &mut [u8], s: &[u8])
     } else {
         clear(part, IMAGE_SIZE);
     }
+}
+
+// The same by value.
+pub fn head_bytes(s: &[u8]) -> [u8; IMAGE_SIZE]
+    ensures { result ≡ head_of s.now }
+{
+    let mut e = [0; IMAGE_SIZE];
+    put_head(&mut e, s);
+    e
 }
 
 // Bytes that are no image, or carry old bytes, give a machine that every call refuses by 4.

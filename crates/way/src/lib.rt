@@ -132,6 +132,7 @@ fn plain_trip(s: &[u8]) -> bool
     leads_to_memory(way) & (flag(byte(s, base), 0x80) | !((0x2181 <= port) & (port < 0x2184)))
 }
 
+#[tactic(auto, unfolding(crate::specs::Way::turn_by))]
 fn turn_of(s: &[u8]) -> Way
     ensures { way_number result ≡ turn_by (seen s.now) }
 {
@@ -152,6 +153,7 @@ fn image_ok(s: &[u8]) -> bool
 
 // Bytes are read one by one: the call before wrote some of them, and a wide read would wait for that. The ranges are tested last, since
 // that takes longest.
+#[tactic(auto, unfolding(crate::specs::Way::kind_of))]
 fn kind_of(s: &[u8]) -> Way
     ensures { way_number result ≡ kind_of s.now }
 {
@@ -195,6 +197,7 @@ fn lent_ok(
         & !(cap < kept)
 }
 
+#[tactic(auto, unfolding(crate::specs::Way::way_of))]
 pub fn way_of(
     s: &[u8],
     low: usize,

@@ -50,12 +50,14 @@ fn port_at(e: &[u8], addr: u16) -> u8
 }
 
 // The byte of work RAM behind an address, if it has one.
+#[tactic(auto, unfolding(crate::specs::OneByte::place_for))]
 fn place_at(e: &[u8], bank: u8, addr: u16) -> Place
     ensures { result ≡ place_for e.now bank addr }
 {
     place_of(wmadd_in(e), route_of(bank, addr), addr)
 }
 
+#[tactic(auto, unfolding(crate::specs::OneByte::byte_from))]
 fn byte_from(e: &[u8], low: &[u8], high: &[u8], rom: &[u8], bank: u8, addr: u16) -> u8
     ensures { result ≡ byte_from e.now rom.now low.now high.now bank addr }
 {
@@ -85,6 +87,7 @@ fn note_moved(entries: &mut [u8], slot: usize, s: &[u8], olds: Olds)
 }
 
 // $2180 takes WMADD one byte on.
+#[tactic(auto, unfolding(crate::specs::OneByte::wmadd_next))]
 fn wmadd_next(e: &[u8]) -> WmAddress
     ensures { result ≡ wmadd_next e.now }
 {
@@ -103,6 +106,7 @@ fn wmadd_bytes(w: WmAddress) -> [u8; 3]
 }
 
 // The bytes last written to the APU.
+#[tactic(auto, unfolding(crate::specs::OneByte::written_next))]
 fn written_next(e: &[u8], moved: u8) -> [u8; 4]
     ensures { result ≡ written_next e.now moved }
 {

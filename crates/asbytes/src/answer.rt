@@ -10,13 +10,8 @@ use fields::put;
 pub fn access_bytes(a: Access) -> [u8; ACCESS_SIZE]
     ensures { result ≡ enc_access a }
 {
-    [
-        a.write as u8,
-        a.bank,
-        (a.addr % 256) as u8,
-        (a.addr / 256 % 256) as u8,
-        a.byte,
-    ]
+    let [low, high] = a.addr.to_le_bytes();
+    [a.write as u8, a.bank, low, high, a.byte]
 }
 
 // All eleven, each straight to its place; nothing, where the last has no room.
@@ -24,11 +19,8 @@ fn put_accesses(out: &mut [u8], items: [Access; 11])
     ensures { out.new ≡ patched out.old accesses_place (enc_accesses items) }
 {
     if ANSWER_SIZE <= out.len() {
-        let mut i: usize = 0;
-        while i < 11 {
-            let a = access_bytes(items[i]);
-            put(out, ACCESSES + ACCESS_SIZE * i, &a);
-            i += 1;
+        for (i, a) in items.iter().enumerate() {
+            put(out, ACCESSES + ACCESS_SIZE * i, &access_bytes(*a));
         }
     }
 }
@@ -36,8 +28,7 @@ fn put_accesses(out: &mut [u8], items: [Access; 11])
 pub fn put_answer(out: &mut [u8], held: bool, edge: bool, log: Log)
     ensures { out.new ≡ answered held edge log out.old }
 {
-    let head = [held as u8, edge as u8, log.count];
-    put(out, 0, &head);
+    put(out, 0, &[held as u8, edge as u8, log.count]);
     let items = log.items;
     put_accesses(out, items);
 }

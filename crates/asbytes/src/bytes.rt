@@ -2,15 +2,14 @@
 ghost use Rattle.std.specs.Prelude.{◌≡◌};
 ghost use Rattle.asbytes.specs.Machine.{head_of, head_in, machine_of, bench_of, counted, summed, stored, saved};
 ghost use Rattle.asbytes.specs.Places.{slot_at, count_at, length_at, sum_at};
-ghost use Rattle.fields.specs.Little.{le, field};
 ghost use Rattle.fields.specs.Patch.{patched};
 ghost use Rattle.image.specs.Encode.{encode};
 ghost use Rattle.wram.specs.Olds.{no_olds};
 
 use crate::{KEPT, LENGTH, SLOT, SUM};
 use decode::machine_at;
-use fields::word::{byte, four};
-use fields::{clear, eight_bytes, four_bytes, join8, put};
+use fields::word::{eight, four};
+use fields::{clear, put};
 use image::put_fields;
 use layout::{IMAGE_SIZE, OLD_COUNT};
 use ranges::entry::entry_ok;
@@ -18,42 +17,40 @@ use ring::Bench;
 use state::Machine;
 use wram::no_olds;
 
-// The image that the first bytes are; zeros, where there are too few.
-pub fn head_bytes(s: &[u8]) -> [u8; IMAGE_SIZE]
-    ensures { result ≡ head_of s.now }
+// The image that the first bytes are; none, where there are too few.
+pub fn head(s: &[u8]) -> &[u8]
+    ensures { result.now ≡ head_in s.now }
 {
-    let mut e = [0u8; IMAGE_SIZE];
     if IMAGE_SIZE <= s.len() {
-        put(&mut e, 0, &s[0..IMAGE_SIZE]);
-        return e;
+        &s[..IMAGE_SIZE]
+    } else {
+        &[]
     }
-    e
 }
 
-// The same, straight over the first bytes of `part`.
+// It, or zeros where there are too few bytes, straight over the first bytes of `part`.
 pub fn put_head(part: &mut [u8], s: &[u8])
     ensures { part.new ≡ patched part.old 0 (head_of s.now) }
 {
     if IMAGE_SIZE <= s.len() {
-        put(part, 0, &s[0..IMAGE_SIZE]);
+        put(part, 0, &s[..IMAGE_SIZE]);
     } else {
         clear(part, IMAGE_SIZE);
     }
 }
 
-// The same bytes where they stand; none, where there are too few.
-pub fn head(s: &[u8]) -> &[u8]
-    ensures { result.now ≡ head_in s.now }
+// The same by value.
+pub fn head_bytes(s: &[u8]) -> [u8; IMAGE_SIZE]
+    ensures { result ≡ head_of s.now }
 {
-    if IMAGE_SIZE <= s.len() {
-        return &s[0..IMAGE_SIZE];
-    }
-    &s[0..0]
+    let mut e = [0; IMAGE_SIZE];
+    put_head(&mut e, s);
+    e
 }
 
 // Bytes that are no image, or carry old bytes, give a machine that every call refuses by 4.
-fn machine_of(e: [u8; IMAGE_SIZE]) -> Machine
-    ensures { result ≡ machine_of e }
+fn machine_of(e: &[u8; IMAGE_SIZE]) -> Machine
+    ensures { result ≡ machine_of e.now }
 {
     let ok = entry_ok(e);
     let mut m = machine_at(e);
@@ -62,25 +59,6 @@ fn machine_of(e: [u8; IMAGE_SIZE]) -> Machine
     }
     m.board.bitcycles = 0;
     m
-}
-
-// The number in eight bytes; a byte past the end reads 0.
-pub fn eight(s: &[u8], at: usize) -> u64
-    ensures { result ≡ field 8 s.now at }
-{
-    if s.len() <= at {
-        return 0;
-    }
-    join8(
-        byte(s, at),
-        byte(s, at + 1),
-        byte(s, at + 2),
-        byte(s, at + 3),
-        byte(s, at + 4),
-        byte(s, at + 5),
-        byte(s, at + 6),
-        byte(s, at + 7),
-    )
 }
 
 pub fn slot_at(s: &[u8]) -> usize
@@ -110,56 +88,40 @@ pub fn sum_at(s: &[u8]) -> u32
 pub fn bench_of(s: &[u8]) -> Bench
     ensures { result ≡ bench_of s.now }
 {
-    let e = head_bytes(s);
-    let m = machine_of(e);
-    let slot = slot_at(s);
-    let kept = kept_at(s);
-    let length = length_at(s);
-    let sum = sum_at(s);
     Bench {
-        machine: m,
-        slot: slot,
-        kept: kept,
-        length: length,
-        sum: sum,
+        machine: machine_of(&head_bytes(s)),
+        slot: slot_at(s),
+        kept: kept_at(s),
+        length: length_at(s),
+        sum: sum_at(s),
     }
-}
-
-pub fn put_eight(s: &mut [u8], at: usize, n: usize)
-    ensures { s.new ≡ patched s.old at (le 8 n) }
-{
-    let b = eight_bytes(n as u64);
-    put(s, at, &b);
 }
 
 // Next slot, kept and record length.
 pub fn put_counts(s: &mut [u8], slot: usize, kept: usize, length: usize)
     ensures { s.new ≡ counted s.old slot kept «length» }
 {
-    put_eight(s, SLOT, slot);
-    put_eight(s, KEPT, kept);
-    put_eight(s, LENGTH, length);
+    put(s, SLOT, &slot.to_le_bytes());
+    put(s, KEPT, &kept.to_le_bytes());
+    put(s, LENGTH, &length.to_le_bytes());
 }
 
 pub fn put_sum(s: &mut [u8], sum: u32)
     ensures { s.new ≡ summed s.old sum }
 {
-    let b = four_bytes(sum);
-    put(s, SUM, &b);
+    put(s, SUM, &sum.to_le_bytes());
 }
 
 fn put_machine(s: &mut [u8], m: Machine)
     ensures { s.new ≡ patched s.old 0 (encode m no_olds) }
 {
-    let olds = no_olds();
-    put_fields(s, m, olds);
+    put_fields(s, m, no_olds());
 }
 
 pub fn store(s: &mut [u8], b: Bench)
     ensures { s.new ≡ stored b s.old }
 {
-    let m = b.machine;
-    put_machine(s, m);
+    put_machine(s, b.machine);
     put_counts(s, b.slot, b.kept, b.length);
     put_sum(s, b.sum);
 }

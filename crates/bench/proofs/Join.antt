@@ -13,6 +13,8 @@ use Rattle.entry.specs.declared.Decoded.{Decoded}
 use Rattle.layout.specs.Layout.{capacity}
 use Rattle.machine.proofs.Adds.{cycle-recorded}
 use Rattle.machine.specs.Cycle.{Turned, machine_after, cycled}
+use Rattle.machine.specs.Lent.{told}
+use Rattle.machine.specs.declared.cycle.Turn.{Turn}
 use Rattle.machine.specs.declared.event.Event.{Event}
 use Rattle.state.specs.declared.Machine.{Machine}
 use Rattle.wram.specs.{Banks.Banks, Banks.banks, Olds.put_back, Olds.no_olds, Sum.ram_sum, Sum.follows}
@@ -43,15 +45,15 @@ module _ (rom : List ℕ) (d : Desk) {lent : ℕ} (p : lent ≡ lent_of d (lengt
     unfolding cycle_call
     cycle-refused r q = let z = refuses r in cc
 
-    pub cycle-done : {e : Event} {t : Turned} {m : Machine} {s : ℕ} {x : Noted} → 0 ≡ cycle_number lent d.bench event → e ≡ event_of event
-        → t ≡ cycled rom d.bench.machine d.ram.low d.ram.high e line timer → m ≡ machine_after t
-        → s ≡ follows d.bench.sum (put_back t.after.world.core.olds t.after.world.ram) t.after.world.ram
-        → x ≡ noted d.bench d.entries m t.after.world.core.olds s
-        → ◌≡◌ {A = CycleOut} (record { number = 0; held = t.held; edge = t.edge; log = t.after.world.core.log; desk = record { bench = x.bench; ram = t.after.world.ram; entries = x.entries } }) (cycle_call rom d event line timer)
+    pub cycle-done : {e : Event} {t : Turned} {k : Turn} {r : Banks} {m : Machine} {s : ℕ} {x : Noted} → 0 ≡ cycle_number lent d.bench event → e ≡ event_of event
+        → t ≡ cycled rom d.bench.machine d.ram.low d.ram.high e line timer → k ≡ told t → r ≡ t.after.world.ram → m ≡ machine_after t
+        → s ≡ follows d.bench.sum (put_back k.olds r) r
+        → x ≡ noted d.bench d.entries m k.olds s
+        → ◌≡◌ {A = CycleOut} (record { number = 0; held = k.held; edge = k.edge; log = k.log; desk = record { bench = x.bench; ram = r; entries = x.entries } }) (cycle_call rom d event line timer)
     unfolding cycle_call
-    cycle-done {e} {t} z a b c s x =
+    cycle-done {e} {t} {k} {r} z a b f g c s x =
         let back = (cycle-recorded rom d.bench.machine d.ram.low d.ram.high e line timer).back in
-        let sum = sum_by d t.after.world.ram s (ap (λ (t : Turned). put_back t.after.world.core.olds t.after.world.ram) b ∙ back) in
+        let sum = sum_by d r s ((λ i. put_back (f i).olds (g i)) ∙ ap (λ (t : Turned). put_back t.after.world.core.olds t.after.world.ram) b ∙ back) in
         cc
 
 module _ (rom : List ℕ) (d : Desk) (bank addr : ℕ) where
@@ -59,16 +61,16 @@ module _ (rom : List ℕ) (d : Desk) (bank addr : ℕ) where
   unfolding read_call
   read-refused r p = let z = refuses r in cc
 
-  pub read_done_lem : {k : Core} {r : Reading} {m : Machine} {s : ℕ} {x : Noted} {c : ℕ} → 0 ≡ lent_of d (length rom) → k ≡ opened d.bench.machine.io
-      → r ≡ read_at rom (record { core = k; ram = d.ram }) bank addr → m ≡ with_io d.bench.machine r.world.core.io
-      → s ≡ follows d.bench.sum (put_back r.world.core.olds r.world.ram) r.world.ram
-      → x ≡ noted d.bench d.entries m r.world.core.olds s → c ≡ cost_of d.bench.machine.io.enables.memsel bank addr
-      → ◌≡◌ {A = ReadOut} (record { number = 0; byte = r.byte; cost = c; desk = record { bench = x.bench; ram = r.world.ram; entries = x.entries } }) (read_call rom d bank addr)
+  pub read_done_lem : {k : Core} {r : Reading} {y : ℕ} {w : World} {m : Machine} {s : ℕ} {x : Noted} {c : ℕ} → 0 ≡ lent_of d (length rom) → k ≡ opened d.bench.machine.io
+      → r ≡ read_at rom (record { core = k; ram = d.ram }) bank addr → y ≡ r.byte → w ≡ r.world → m ≡ with_io d.bench.machine w.core.io
+      → s ≡ follows d.bench.sum (put_back w.core.olds w.ram) w.ram
+      → x ≡ noted d.bench d.entries m w.core.olds s → c ≡ cost_of d.bench.machine.io.enables.memsel bank addr
+      → ◌≡◌ {A = ReadOut} (record { number = 0; byte = y; cost = c; desk = record { bench = x.bench; ram = w.ram; entries = x.entries } }) (read_call rom d bank addr)
   unfolding read_call
-  read_done_lem {k} {r} z a b c s e f =
+  read_done_lem {k} {r} {y} {w} z a b g h c s e f =
       let back = (read-recorded rom d.bench.machine.io d.ram.low d.ram.high bank addr).back in
       let is = b ∙ ap (λ (k : Core). read_at rom (record { core = k; ram = d.ram }) bank addr) a in
-      let sum = sum_by d r.world.ram s (ap (λ (r : Reading). put_back r.world.core.olds r.world.ram) is ∙ back) in
+      let sum = sum_by d w.ram s (ap (λ (v : World). put_back v.core.olds v.ram) h ∙ ap (λ (r : Reading). put_back r.world.core.olds r.world.ram) is ∙ back) in
       cc
 
   pub write-refused : (byte : ℕ) (r : Refusal) → refusal_number r ≡ lent_of d (length rom) → ◌≡◌ {A = WriteOut} (record { number = refusal_number r; cost = 0; desk = d }) (write_call rom d bank addr byte)

@@ -13,13 +13,13 @@ ghost use Rattle.transfer.specs.Byte.{moved_log};
 
 use crate::rest::count;
 use asbytes::answer::access_bytes;
-use asbytes::bytes::{head, kept_at, length_at, put_eight, put_head, put_sum, slot_at, sum_at};
+use asbytes::bytes::{head, kept_at, length_at, put_head, put_sum, slot_at, sum_at};
 use asbytes::{ACCESS_SIZE, ACCESSES, ACCESSES_SIZE};
 use bus::access::Access;
 use bus::route::{Route, place_of, route_of};
 use decode::register_file::wmadd_in;
-use fields::word::{byte, two};
-use fields::{four_bytes, put, two_bytes};
+use fields::put;
+use fields::word::{byte, bytes_at, two};
 use image::olds::olds_bytes;
 use image::register_file::bank_byte;
 use layout::{
@@ -27,17 +27,10 @@ use layout::{
     WMADD_BANK, WRITTEN, capacity,
 };
 use registers::wm_address::{WmAddress, inc};
-use transfer::bits::{dec16, flag};
+use transfer::bits::flag;
 use transfer::byte::{Trip, next_a1t};
 use way::{base_at, bside_at, clock_at, nmi_at, trip_at, unit_at};
-use wram::sum::sum_with;
-use wram::{Olds, Place, keep_old, no_olds, peek, poke};
-
-const WRITTEN1: usize = WRITTEN + 1;
-
-const WRITTEN2: usize = WRITTEN + 2;
-
-const WRITTEN3: usize = WRITTEN + 3;
+use wram::{Olds, Place, Ram, no_olds};
 
 // What a port of the B bus answers; where none does, the open bus.
 fn port_at(e: &[u8], addr: u16) -> u8
@@ -47,35 +40,28 @@ fn port_at(e: &[u8], addr: u16) -> u8
         return byte(e, OPENBUS);
     }
     if addr < 0x2140 {
-        let i = (addr - 0x2134) as usize;
-        return byte(e, PPU + i);
+        return byte(e, PPU + (addr - 0x2134) as usize);
     }
     if addr < 0x2180 {
-        let i = (addr % 4) as usize;
-        return byte(e, APU + i);
+        return byte(e, APU + (addr % 4) as usize);
     }
     byte(e, OPENBUS)
 }
 
 // The byte of work RAM behind an address, if it has one.
+#[tactic(auto, unfolding(crate::specs::OneByte::place_for))]
 fn place_at(e: &[u8], bank: u8, addr: u16) -> Option<Place>
     ensures { result ≡ place_for e.now bank addr }
 {
-    let wmadd = wmadd_in(e);
-    let way = route_of(bank, addr);
-    place_of(wmadd, way, addr)
+    place_of(wmadd_in(e), route_of(bank, addr), addr)
 }
 
-fn byte_from(e: &[u8], low: &[u8], high: &[u8], rom: &[u8], bank: u8, addr: u16) -> u8
-    ensures { result ≡ byte_from e.now rom.now low.now high.now bank addr }
+#[tactic(auto, unfolding(crate::specs::OneByte::byte_from))]
+fn byte_from(e: &[u8], ram: &Ram<'_>, rom: &[u8], bank: u8, addr: u16) -> u8
+    ensures { result ≡ byte_from e.now rom.now ram.now.low.now ram.now.high.now bank addr }
 {
-    let place = place_at(e, bank, addr);
-    let held = peek(low, high, place);
-    let way = route_of(bank, addr);
-    match way {
-        Route::Bank7E => held,
-        Route::Bank7F => held,
-        Route::Data => held,
+    match route_of(bank, addr) {
+        Route::Bank7E | Route::Bank7F | Route::Data => ram.peek(place_at(e, bank, addr)),
         Route::Registers => port_at(e, addr),
         Route::Cartridge => cartridge::read(rom, bank, addr, byte(e, OPENBUS)),
     }
@@ -87,8 +73,7 @@ fn put_noted(part: &mut [u8], s: &[u8], olds: Olds)
 {
     if IMAGE_SIZE <= part.len() {
         put_head(part, s);
-        let b = olds_bytes(olds);
-        put(part, OLD_COUNT, &b);
+        put(part, OLD_COUNT, &olds_bytes(olds));
     }
 }
 
@@ -96,12 +81,12 @@ fn note_moved(entries: &mut [u8], slot: usize, s: &[u8], olds: Olds)
     ensures { entries.new ≡ write_slot entry_size slot (patched (head_of s.now) (at old_count) (enc_olds olds)) entries.old }
 {
     if slot < capacity(entries.len()) {
-        let at = slot * ENTRY_SIZE;
-        put_noted(&mut entries[at..], s, olds);
+        put_noted(&mut entries[slot * ENTRY_SIZE..], s, olds);
     }
 }
 
 // $2180 takes WMADD one byte on.
+#[tactic(auto, unfolding(crate::specs::OneByte::wmadd_next))]
 fn wmadd_next(e: &[u8]) -> WmAddress
     ensures { result ≡ wmadd_next e.now }
 {
@@ -115,27 +100,20 @@ fn wmadd_next(e: &[u8]) -> WmAddress
 fn wmadd_bytes(w: WmAddress) -> [u8; 3]
     ensures { result ≡ wmadd_bytes w }
 {
-    let k = w.bank;
-    let bank = bank_byte(k);
-    [bank, (w.addr % 256) as u8, (w.addr / 256 % 256) as u8]
+    let [low, high] = w.addr.to_le_bytes();
+    [bank_byte(w.bank), low, high]
 }
 
 // The bytes last written to the APU.
+#[tactic(auto, unfolding(crate::specs::OneByte::written_next))]
 fn written_next(e: &[u8], moved: u8) -> [u8; 4]
     ensures { result ≡ written_next e.now moved }
 {
-    let mut w = [
-        byte(e, WRITTEN),
-        byte(e, WRITTEN1),
-        byte(e, WRITTEN2),
-        byte(e, WRITTEN3),
-    ];
+    let mut w = bytes_at(e, WRITTEN);
     let base = base_at(e);
     let port = bside_at(e);
     if !flag(byte(e, base), 0x80) & (0x2140 <= port) & (port < 0x2180) {
-        let i = (port % 4) as usize;
-        w[i] = moved;
-        return w;
+        w[(port % 4) as usize] = moved;
     }
     w
 }
@@ -146,31 +124,24 @@ fn move_on(s: &mut [u8], moved: u8)
     ensures { s.new ≡ patched s.old 0 (after_move (head_of s.old) moved) }
 {
     if IMAGE_SIZE <= s.len() {
-        let e = &s[0..IMAGE_SIZE];
+        let e = &s[..IMAGE_SIZE];
         let base = base_at(e);
-        let a = next_a1t(byte(e, base), two(e, base + A1T));
-        let d = dec16(two(e, base + DAS));
+        let a1t = next_a1t(byte(e, base), two(e, base + A1T));
+        let das = two(e, base + DAS).wrapping_sub(1);
         let nmi = nmi_at(e);
-        let unit = std::num::wrapping_add_u32(unit_at(e), 1);
-        let clock = std::num::wrapping_add_u64(clock_at(e), 1);
+        let unit = unit_at(e).wrapping_add(1);
+        let clock = clock_at(e).wrapping_add(1);
         let wmadd = wmadd_next(e);
         let written = written_next(e, moved);
-        let w = wmadd_bytes(wmadd);
-        put(s, WMADD_BANK, &w);
-        let open = [moved];
-        put(s, OPENBUS, &open);
-        let line = [nmi as u8];
-        put(s, NMI, &line);
-        let steps = four_bytes(unit);
-        put(s, UNIT, &steps);
-        let wait = four_bytes(7);
-        put(s, WAIT, &wait);
-        let a1t = two_bytes(a);
-        put(s, base + A1T, &a1t);
-        let das = two_bytes(d);
-        put(s, base + DAS, &das);
+        put(s, WMADD_BANK, &wmadd_bytes(wmadd));
+        put(s, OPENBUS, &[moved]);
+        put(s, NMI, &[nmi as u8]);
+        put(s, UNIT, &unit.to_le_bytes());
+        put(s, WAIT, &7u32.to_le_bytes());
+        put(s, base + A1T, &a1t.to_le_bytes());
+        put(s, base + DAS, &das.to_le_bytes());
         put(s, WRITTEN, &written);
-        put_eight(s, CLOCK, clock as usize);
+        put(s, CLOCK, &clock.to_le_bytes());
     }
 }
 
@@ -178,19 +149,18 @@ fn move_on(s: &mut [u8], moved: u8)
 fn put_moved(out: &mut [u8], edge: bool, trip: Trip, byte: u8)
     ensures { out.new ≡ answered true edge (moved_log trip byte) out.old }
 {
-    let head = [1, edge as u8, 2];
-    put(out, 0, &head);
+    put(out, 0, &[1, edge as u8, 2]);
     let from = access_bytes(Access {
         write: false,
         bank: trip.source.bank,
         addr: trip.source.addr,
-        byte: byte,
+        byte,
     });
     let to = access_bytes(Access {
         write: true,
         bank: trip.target.bank,
         addr: trip.target.addr,
-        byte: byte,
+        byte,
     });
     let mut b = [0u8; ACCESSES_SIZE];
     put(&mut b, 0, &from);
@@ -217,15 +187,15 @@ pub fn carry(
     let trip = trip_at(e);
     let nmi = nmi_at(e);
     let was = byte(e, NMI);
-    let moved = byte_from(e, low, high, rom, trip.source.bank, trip.source.addr);
+    let mut ram = Ram { low, high };
+    let moved = byte_from(e, &ram, rom, trip.source.bank, trip.source.addr);
     let place = place_at(e, trip.target.bank, trip.target.addr);
-    let none = no_olds();
-    let olds = keep_old(none, low, high, place);
-    let next = sum_with(sum, low, high, place, moved);
+    let olds = ram.keep_old(no_olds(), place);
+    let next = ram.sum_with(sum, place, moved);
     note_moved(entries, slot, machine, olds);
     move_on(machine, moved);
     count(machine, slot, kept, length);
     put_sum(machine, next);
     put_moved(out, nmi & !(was == 1), trip, moved);
-    poke(low, high, place, moved);
+    ram.poke(place, moved);
 }

@@ -8,10 +8,10 @@ ghost use Rattle.entry.specs.Slot.{write_slot};
 ghost use Rattle.layout.specs.Layout.{entry_size};
 ghost use Rattle.inplace.specs.Rest.{ticking, counting, rested};
 
-use asbytes::bytes::{kept_at, length_at, put_counts, put_eight, put_head, slot_at};
+use asbytes::bytes::{kept_at, length_at, put_counts, put_head, slot_at};
 use asbytes::{ACCESSES, ACCESSES_SIZE};
 use fields::word::byte;
-use fields::{four_bytes, put};
+use fields::put;
 use layout::{CLOCK, ENTRY_SIZE, NMI, WAIT, capacity};
 use ring::slots::{more_kept, slot_after};
 use way::{clock_at, nmi_at, wait_at};
@@ -19,32 +19,24 @@ use way::{clock_at, nmi_at, wait_at};
 fn tick(s: &mut [u8], nmi: bool, wait: u32, clock: u64)
     ensures { s.new ≡ ticking s.old nmi wait clock }
 {
-    let line = [nmi as u8];
-    put(s, NMI, &line);
-    let left = wait.saturating_sub(1);
-    let four = four_bytes(left);
-    put(s, WAIT, &four);
-    let next = std::num::wrapping_add_u64(clock, 1);
-    put_eight(s, CLOCK, next as usize);
+    put(s, NMI, &[nmi as u8]);
+    put(s, WAIT, &wait.saturating_sub(1).to_le_bytes());
+    put(s, CLOCK, &clock.wrapping_add(1).to_le_bytes());
 }
 
 pub fn count(s: &mut [u8], slot: usize, kept: usize, length: usize)
     ensures { s.new ≡ counting s.old slot kept «length» }
 {
     let cap = capacity(length);
-    let next = slot_after(cap, slot);
-    let more = more_kept(cap, kept);
-    put_counts(s, next, more, length);
+    put_counts(s, slot_after(cap, slot), more_kept(cap, kept), length);
 }
 
 // No access: zeros behind held and edge.
 fn put_quiet(out: &mut [u8], held: bool, edge: bool)
     ensures { out.new ≡ answered held edge no_log out.old }
 {
-    let head = [held as u8, edge as u8, 0];
-    put(out, 0, &head);
-    let none = [0u8; ACCESSES_SIZE];
-    put(out, ACCESSES, &none);
+    put(out, 0, &[held as u8, edge as u8, 0]);
+    put(out, ACCESSES, &[0; ACCESSES_SIZE]);
 }
 
 // The entry is the image as it stands, straight into its slot.
@@ -52,8 +44,7 @@ fn copy_image(entries: &mut [u8], slot: usize, s: &[u8])
     ensures { entries.new ≡ write_slot entry_size slot (head_of s.now) entries.old }
 {
     if slot < capacity(entries.len()) {
-        let at = slot * ENTRY_SIZE;
-        put_head(&mut entries[at..], s);
+        put_head(&mut entries[slot * ENTRY_SIZE..], s);
     }
 }
 

@@ -54,7 +54,7 @@ pub fn machine_of(head: &[u8]) -> [u8; MACHINE_SIZE] {
 // The machine by value, whatever its image breaks, so that the bench itself judges it.
 pub fn bench_of(bytes: &[u8]) -> Bench {
     let e = head_bytes(bytes);
-    let m = machine_at(e);
+    let m = machine_at(&e);
     let mut b = asbytes::bytes::bench_of(bytes);
     b.machine = m;
     b

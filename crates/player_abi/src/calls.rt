@@ -14,7 +14,7 @@ use asbytes::bytes::{bench_of, save, store};
 use fields::put;
 use inplace::onebyte::carry;
 use inplace::rest::rest;
-use way::way_of;
+use way::{Way, way_of};
 
 // A machine at power-on beside these banks, which are only looked at.
 #[unsafe(no_mangle)]
@@ -49,7 +49,7 @@ pub extern "C" fn cloverwain_cycle(
 ) -> u8
     ensures { crossed result machine.new low.new high.new entries.new out.new ≡ cycle_crossed machine.old out.old (cycle_call rom.now (desk (bench_of machine.old) low.old high.old entries.old) event line timer) }
 {
-    let way = way_of(
+    match way_of(
         machine,
         low.len(),
         high.len(),
@@ -58,14 +58,16 @@ pub extern "C" fn cloverwain_cycle(
         event,
         line,
         timer,
-    );
-    if way == 1 {
-        rest(machine, entries, out);
-        return 0;
-    }
-    if way == 2 {
-        carry(machine, low, high, entries, rom, out);
-        return 0;
+    ) {
+        Way::Full => {}
+        Way::Rest => {
+            rest(machine, entries, out);
+            return 0;
+        }
+        Way::Carry => {
+            carry(machine, low, high, entries, rom, out);
+            return 0;
+        }
     }
     let b = bench_of(machine);
     let r = bench::operate::cycle(b, low, high, entries, rom, event, line, timer);

@@ -1,7 +1,6 @@
 // Count and add, tried (numbers 13 and 14). A line has every figure that changed, with what it is now.
 use crate::say::{say, say_end, say_named};
-use asbytes::bytes::eight;
-use fields::word::byte;
+use fields::word::{byte, eight};
 use tally::count::count;
 use tally::share::Share;
 use totals::folder::{Folder, add};

@@ -11,6 +11,14 @@ use Rattle.layout.specs.Layout.{capacity}
 use Rattle.ranges.specs.{Entry.entry_ok, Tests.all}
 use Rattle.transfer.specs.Bits.{flag_of, down}
 use Rattle.way.specs.Seen.{Seen, seen}
+use Rattle.way.specs.declared.Way.{Way}
+use Rattle.way.specs.declared.Way.TheVariants.{Full, Rest, Carry}
+
+-- the ways by number, as the definitions below have them
+abbrev pub way_number : Way → ℕ
+way_number Full = 0
+way_number Rest = 1
+way_number Carry = 2
 
 module _ (s : Seen) where
   -- both ports' buttons are those of the pad words

@@ -6,12 +6,12 @@ ghost use Rattle.asbytes.specs.Machine.{head_of};
 ghost use Rattle.ranges.specs.Entry.{entry_ok};
 ghost use Rattle.ranges.specs.Tests.{all};
 ghost use Rattle.way.specs.Seen.{wait_at, clock_at, nmi_at, base_at, unit_at, bside_at, trip_in, seen};
-ghost use Rattle.way.specs.Way.{pressed_tests, calm_tests, waiting, due_tests, trip_tests, turn_by, kind_of, plain_tests, lent_tests, way_of};
+ghost use Rattle.way.specs.Way.{pressed_tests, calm_tests, waiting, due_tests, trip_tests, way_number, turn_by, kind_of, plain_tests, lent_tests, way_of};
 
 use asbytes::MACHINE_SIZE;
-use asbytes::bytes::{eight, head_bytes, kept_at, length_at, slot_at};
+use asbytes::bytes::{head_bytes, kept_at, length_at, slot_at};
 use bus::route::{leads_to_memory, route_of};
-use fields::word::{byte, four, two};
+use fields::word::{byte, eight, four, two};
 use layout::{
     A1B, A1T, AUTO_KIND, BBAD, BUTTONS, CHANNEL, CHANNEL_SIZE, CHANNELS, CLOCK, DAS, DMA_STATE,
     MDMAEN, NMITIMEN, OLD_COUNT, PAD1, PAD2, PENDING, PORT_SIZE, PORTS, PRESENT, RDNMI, RUNNING,
@@ -19,9 +19,20 @@ use layout::{
 };
 use ranges::entry::entry_ok;
 use ring::refusal::{banks_off, record_off, rom_off};
-use transfer::bits::{dec16, flag};
+use transfer::bits::flag;
 use transfer::byte::{Trip, trip_of};
 use transfer::pattern::{b_address, offset};
+
+// How a cycle is made.
+#[derive(Clone, Copy, PartialEq, Eq, Debug)]
+pub enum Way {
+    // by the call that reads the whole machine: anything else than the two below, a refusal too
+    Full,
+    // it only waits
+    Rest,
+    // it moves a byte of a general transfer
+    Carry,
+}
 
 const BUTTONS1: usize = PORTS + BUTTONS;
 
@@ -103,7 +114,7 @@ fn due_at(s: &[u8]) -> bool
     ensures { result ≡ all (due_tests (seen s.now)) }
 {
     let base = base_at(s);
-    let left = dec16(two(s, base + DAS));
+    let left = two(s, base + DAS).wrapping_sub(1);
     (wait_at(s) == 0)
         & (byte(s, PENDING) == 0)
         & (byte(s, DMA_STATE) == 2)
@@ -121,39 +132,44 @@ fn plain_trip(s: &[u8]) -> bool
     leads_to_memory(way) & (flag(byte(s, base), 0x80) | !((0x2181 <= port) & (port < 0x2184)))
 }
 
-fn turn_of(s: &[u8]) -> u8
-    ensures { result ≡ turn_by (seen s.now) }
+#[tactic(auto, unfolding(crate::specs::Way::turn_by))]
+fn turn_of(s: &[u8]) -> Way
+    ensures { way_number result ≡ turn_by (seen s.now) }
 {
     if waiting_at(s) {
-        return 1;
+        return Way::Rest;
     }
     if due_at(s) & plain_trip(s) {
-        return 2;
+        return Way::Carry;
     }
-    0
+    Way::Full
 }
 
 fn image_ok(s: &[u8]) -> bool
     ensures { result ≡ entry_ok (head_of s.now) }
 {
-    let e = head_bytes(s);
-    entry_ok(e)
+    entry_ok(&head_bytes(s))
 }
 
 // Bytes are read one by one: the call before wrote some of them, and a wide read would wait for that. The ranges are tested last, since
 // that takes longest.
-fn kind_of(s: &[u8]) -> u8
-    ensures { result ≡ kind_of s.now }
+#[tactic(auto, unfolding(crate::specs::Way::kind_of))]
+fn kind_of(s: &[u8]) -> Way
+    ensures { way_number result ≡ kind_of s.now }
 {
-    if calm_at(s) {
-        let kind = turn_of(s);
-        if kind != 0 {
+    if !calm_at(s) {
+        return Way::Full;
+    }
+    match turn_of(s) {
+        Way::Full => Way::Full,
+        turn => {
             if image_ok(s) {
-                return kind;
+                turn
+            } else {
+                Way::Full
             }
         }
     }
-    0
 }
 
 fn plain(event: u8, line: bool, timer: bool) -> bool
@@ -181,7 +197,7 @@ fn lent_ok(
         & !(cap < kept)
 }
 
-// 1: the cycle only waits; 2: it moves a byte of a general transfer; 0: anything else, a refusal too.
+#[tactic(auto, unfolding(crate::specs::Way::way_of))]
 pub fn way_of(
     s: &[u8],
     low: usize,
@@ -191,11 +207,11 @@ pub fn way_of(
     event: u8,
     line: bool,
     timer: bool,
-) -> u8
-    ensures { result ≡ way_of s.now low high room rom event line timer }
+) -> Way
+    ensures { way_number result ≡ way_of s.now low high room rom event line timer }
 {
     if s.len() != MACHINE_SIZE {
-        return 0;
+        return Way::Full;
     }
     let fresh = length_at(s);
     let slot = slot_at(s);
@@ -203,5 +219,5 @@ pub fn way_of(
     if plain(event, line, timer) & lent_ok(low, high, room, rom, fresh, slot, kept) {
         return kind_of(s);
     }
-    0
+    Way::Full
 }

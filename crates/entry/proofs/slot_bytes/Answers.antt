@@ -15,7 +15,7 @@ returns-then-slot-capacity c =
     (taken c.args.«record».now (replicate entry_size 0) c.put.new.dst (c.args.slot * entry_size) entry_size refl
     (room entry_size c.args.slot c.args.«record».now within) c.put.ensures)
 
-pub returns : goal.returns
+pub returns-else-slot-capacity : goal.returns-else-slot-capacity
 unfolding read_slot
-returns c =
+returns-else-slot-capacity c =
     rw (le-ltb c.args.slot (capacity (length c.args.«record».now)) (rw c.capacity.ensures at c.if-slot-capacity.false))

@@ -13,4 +13,4 @@ row_of l k = enc_access (get_or l k no_access)
 
 pub loop-i-preserved : goal.loop-i-preserved
 loop-i-preserved c =
-    turned c.args.out.now accesses_place 11 (row_of c.args.items) 5 (λ k. refl) c.if-out-ge-ANSWER_SIZE.true c.loop-i.i c.loop-i.invariant c.loop-i-test.true c.put.ensures c.access_bytes-a.ensures refl
+    turned c.args.out.now accesses_place 11 (row_of c.args.items) 5 (λ k. refl) c.if-out-ge-ANSWER_SIZE.true c.loop-i.i c.loop-i.invariant c.loop-i-test.true c.put.ensures c.access_bytes.ensures refl

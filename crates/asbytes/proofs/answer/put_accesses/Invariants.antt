@@ -1,4 +1,4 @@
-use Prim.Native.Nat.{ℕ, ◌-◌}
+use Prim.Native.Nat.{ℕ}
 use mathlib.Core.List.{List}
 use lib.ListN.{get_or}
 use Rattle.fields.proofs.Rows.{Laying}
@@ -11,7 +11,4 @@ abbrev row_of : List Access → ℕ → List ℕ
 row_of l k = enc_access (get_or l k no_access)
 
 abbrev pub invariant-loop-i : goal.invariant-loop-i
-invariant-loop-i l = Laying l.initial.out accesses_place 11 (row_of l.items) l.out l.i
-
-abbrev pub decreases-loop-i : goal.decreases-loop-i
-decreases-loop-i l = 11 - l.i
+invariant-loop-i l = Laying l.initial.out accesses_place 11 (row_of l.fn.items) l.out l.i

@@ -21,7 +21,7 @@ loop-i-init c = let a = c.args in begun a.part.now start 8 (row_of a.channels)
 pub loop-i-preserved : goal.loop-i-preserved
 loop-i-preserved c =
     let a = c.args in
-    turned a.part.now start 8 (row_of a.channels) 12 (λ k. refl) c.if-part-ge-PPU.true c.loop-i.i c.loop-i.invariant c.loop-i-test.true c.put.ensures c.channel_bytes-c.ensures refl
+    turned a.part.now start 8 (row_of a.channels) 12 (λ k. refl) c.if-part-ge-PPU.true c.loop-i.i c.loop-i.invariant c.loop-i-test.true c.put.ensures c.channel_bytes.ensures refl
 
 pub returns-after-loop-i : goal.returns-after-loop-i
 returns-after-loop-i c =

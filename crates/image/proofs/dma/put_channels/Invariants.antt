@@ -1,4 +1,4 @@
-use Prim.Native.Nat.{ℕ, ◌-◌}
+use Prim.Native.Nat.{ℕ}
 use mathlib.Core.List.{List}
 use lib.ListN.{get_or}
 use Rattle.fields.proofs.Rows.{Laying}
@@ -15,7 +15,4 @@ abbrev row_of : List DmaChannel → ℕ → List ℕ
 row_of l k = enc_channel (get_or l k no_channel)
 
 abbrev pub invariant-loop-i : goal.invariant-loop-i
-invariant-loop-i l = Laying l.initial.part start 8 (row_of l.channels) l.part l.i
-
-abbrev pub decreases-loop-i : goal.decreases-loop-i
-decreases-loop-i l = 8 - l.i
+invariant-loop-i l = Laying l.initial.part start 8 (row_of l.fn.channels) l.part l.i

@@ -14,7 +14,7 @@ pub returns-then-part-ge-IMAGE_SIZE : goal.returns-then-part-ge-IMAGE_SIZE
 returns-then-part-ge-IMAGE_SIZE c =
     let room = c.if-part-ge-IMAGE_SIZE.true in
     let copied = over-front image_size c.args.part.now room (head_of c.args.s.now) c.put_head.ensures (head-long c.args.s.now) in
-    front-over image_size c.args.part.now room (within copied c.put.ensures refl c.olds_bytes-b.ensures (omega arith))
+    front-over image_size c.args.part.now room (within copied c.put.ensures refl c.olds_bytes.ensures (omega arith))
 
 pub returns-else-part-ge-IMAGE_SIZE : goal.returns-else-part-ge-IMAGE_SIZE
 returns-else-part-ge-IMAGE_SIZE c =

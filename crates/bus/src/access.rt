@@ -101,6 +101,7 @@ fn read_io(io: Io, rom: &[u8], way: Route, bank: u8, addr: u16, byte: u8) -> IoR
     }
 }
 
+#[tactic(auto, unfolding(crate::specs::World::read_at, crate::specs::Access::push_access))]
 pub fn read(core: Core, low: &[u8], high: &[u8], rom: &[u8], bank: u8, addr: u16) -> BusRead
     ensures { reading result low.now high.now ≡ read_at rom.now (world core low.now high.now) bank addr }
 {
@@ -120,6 +121,7 @@ pub fn read(core: Core, low: &[u8], high: &[u8], rom: &[u8], bank: u8, addr: u16
     }
 }
 
+#[tactic(auto, unfolding(crate::specs::World::write_at, crate::specs::Access::push_access))]
 pub fn write(core: Core, low: &mut [u8], high: &mut [u8], bank: u8, addr: u16, byte: u8) -> Core
     ensures { world result low.new high.new ≡ write_at (world core low.old high.old) bank addr byte }
 {

@@ -7,7 +7,7 @@ use bus::access::Core;
 use bus::view::{channel_of, mdmaen_of, with_channel, with_mdmaen};
 use hdma::engine::{DmaCore, with_progress, with_state};
 use state::{Dma, DmaProgress, DmaState};
-use transfer::bits::{clear_bit, dec16, lowest_bit};
+use transfer::bits::{clear_bit, lowest_bit};
 use transfer::byte::transfer_byte;
 
 // Channels run lowest bit first; with none left the bus goes back.
@@ -36,7 +36,7 @@ fn after_byte(core: Core, d: Dma, ch: u8, unit: u32) -> DmaCore
     ensures { result ≡ after_byte core d ch unit }
 {
     let mut c = channel_of(core, ch);
-    let das = dec16(c.das);
+    let das = c.das.wrapping_sub(1);
     c.das = das;
     let k = with_channel(core, ch, c);
     if das == 0 {

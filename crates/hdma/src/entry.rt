@@ -6,7 +6,7 @@ ghost use Rattle.hdma.specs.Entry.{reloading, reloaded, counted, init_channel};
 use crate::engine::{DmaCore, hdma_of, set_hdma};
 use bus::view::{channel_of, with_channel};
 use state::{Dma, HdmaChannelState};
-use transfer::bits::{dec8, flag};
+use transfer::bits::flag;
 use transfer::table::{load_das, read_table};
 
 // `wait` is the cost so far less one; `stop` says that the table ended.
@@ -83,7 +83,7 @@ pub fn count_line(d: Dma, ch: u8, wait: u32) -> Dma
     ensures { result ≡ counted d ch wait }
 {
     let h = hdma_of(d, ch);
-    let counter = dec8(h.counter);
+    let counter = h.counter.wrapping_sub(1);
     if flag(h.counter, 0x80) {
         return set_hdma(
             d,

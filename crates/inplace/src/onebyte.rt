@@ -27,7 +27,7 @@ use layout::{
     WMADD_BANK, WRITTEN, capacity,
 };
 use registers::wm_address::{WmAddress, inc};
-use transfer::bits::{dec16, flag};
+use transfer::bits::flag;
 use transfer::byte::{Trip, next_a1t};
 use way::{base_at, bside_at, clock_at, nmi_at, trip_at, unit_at};
 use wram::sum::sum_with;
@@ -149,10 +149,10 @@ fn move_on(s: &mut [u8], moved: u8)
         let e = &s[0..IMAGE_SIZE];
         let base = base_at(e);
         let a = next_a1t(byte(e, base), two(e, base + A1T));
-        let d = dec16(two(e, base + DAS));
+        let d = two(e, base + DAS).wrapping_sub(1);
         let nmi = nmi_at(e);
-        let unit = std::num::wrapping_add_u32(unit_at(e), 1);
-        let clock = std::num::wrapping_add_u64(clock_at(e), 1);
+        let unit = unit_at(e).wrapping_add(1);
+        let clock = clock_at(e).wrapping_add(1);
         let wmadd = wmadd_next(e);
         let written = written_next(e, moved);
         let w = wmadd_bytes(wmadd);

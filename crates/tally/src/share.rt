@@ -1,5 +1,5 @@
 // What an operation adds to the figures.
-ghost use Rattle.std.specs.Prelude.{◌≡◌, ◌-◌, min, ◌==◌};
+ghost use Rattle.std.specs.Prelude.{◌≡◌, ◌-◌, ◌==◌};
 ghost use Rattle.common.specs.Pick.{pick};
 ghost use Rattle.bus.specs.Access.{accesses_of};
 ghost use Rattle.tally.specs.Figure.{writes, state_number};
@@ -20,25 +20,13 @@ pub struct Share {
     pub held: u64,
 }
 
-// How many accesses a log holds: at most eleven.
-fn made(count: u8) -> u64
-    ensures { result ≡ min count 11 }
-{
-    if count < 11 { count as u64 } else { 11 }
-}
-
-// How many of them are writes.
+// How many accesses of a log are writes.
 fn written(log: Log) -> u64
     ensures { result ≡ writes (accesses_of log) }
 {
-    let items = log.items;
-    let count = made(log.count);
     let mut n: u64 = 0;
-    let mut i: u64 = 0;
-    while i < count {
-        let a = items[i as usize];
+    for a in log.held() {
         n += a.write as u64;
-        i += 1;
     }
     n
 }
@@ -110,8 +98,6 @@ pub fn share_of(who: Who, held: bool, after: DmaState, log: Log) -> Share
     ensures { result ≡ share_of (made_by who held after log) }
 {
     let w = written(log);
-    let n = made(log.count);
-    let read = less(n, w);
-    let state = state_number(after);
-    share_by(who, w, read, state, held as u64)
+    let read = less(log.held().len() as u64, w);
+    share_by(who, w, read, state_number(after), held as u64)
 }

@@ -19,7 +19,7 @@ use layout::{
 };
 use ranges::entry::entry_ok;
 use ring::refusal::{banks_off, record_off, rom_off};
-use transfer::bits::{dec16, flag};
+use transfer::bits::flag;
 use transfer::byte::{Trip, trip_of};
 use transfer::pattern::{b_address, offset};
 
@@ -103,7 +103,7 @@ fn due_at(s: &[u8]) -> bool
     ensures { result ≡ all (due_tests (seen s.now)) }
 {
     let base = base_at(s);
-    let left = dec16(two(s, base + DAS));
+    let left = two(s, base + DAS).wrapping_sub(1);
     (wait_at(s) == 0)
         & (byte(s, PENDING) == 0)
         & (byte(s, DMA_STATE) == 2)

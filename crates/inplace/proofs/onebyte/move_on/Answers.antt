@@ -18,10 +18,10 @@ returns-then-s-ge-IMAGE_SIZE c =
     let room = c.if-s-ge-IMAGE_SIZE.true in
     let base = c.base_at-base.ensures in
     let wmadd = c.wmadd_bytes-w.ensures ∙ ap wmadd_bytes c.wmadd_next-wmadd.ensures in
-    let unit = ap (λ (n : ℕ). (n + 1) % 2 ^ 32) c.unit_at.ensures in
-    let clock = ap (λ (n : ℕ). (n + 1) % 2 ^ 64) c.clock_at.ensures in
+    let unit = ap (λ (n : ℕ). (n + 1) % 2 ^ 32) c.unit_at-unit.ensures in
+    let clock = ap (λ (n : ℕ). (n + 1) % 2 ^ 64) c.clock_at-clock.ensures in
     let a1t = a1t-by (take image_size s) base c.byte.ensures c.two.ensures c.next_a1t-a.ensures c.two_bytes-a1t.ensures in
-    let das = das-by (take image_size s) base c.two-then-s-ge-IMAGE_SIZE.ensures refl c.two_bytes-das.ensures in
+    let das = das-by (take image_size s) base c.two-d.ensures refl c.two_bytes-das.ensures in
     let f1 = within {k = at the.bank} (front image_size s room) c.put.ensures refl wmadd (omega arith) in
     let f2 = within {t = byte c.args.moved} {k = at the.openbus} f1 c.put-then-s-ge-IMAGE_SIZE.ensures refl refl (omega arith) in
     let f3 = within {k = at the.nmi} f2 c.put-then-s-ge-IMAGE_SIZE-2.ensures refl (ap flag c.nmi_at-nmi.ensures) (omega arith) in

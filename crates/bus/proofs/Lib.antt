@@ -1,4 +1,3 @@
-pub mod Join
 pub mod Adds
 pub mod Channels
 pub mod FitLaws

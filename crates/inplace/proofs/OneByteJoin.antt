@@ -1,5 +1,5 @@
 -- The steps of a byte moved on the machine's bytes, joined.
-use Rattle.std.proofs.Common.{◌≡◌, ℕ, ◌+◌, ◌%◌, ◌^◌, ◌≤◌, Bool, true, false, not, ◌&&◌, eqb, ltb, leb, List, [], ◌++◌, length, take, set, replicate, sym, refl, ap, ◌∙◌, arith, length-set}
+use Rattle.std.proofs.Common.{Option, ◌≡◌, ℕ, ◌+◌, ◌%◌, ◌^◌, ◌≤◌, Bool, true, false, not, ◌&&◌, eqb, ltb, leb, List, [], ◌++◌, length, take, set, replicate, sym, refl, ap, ◌∙◌, arith, length-set}
 use Rattle.common.specs.Pick.{pick}
 use Rattle.common.proofs.TableLaws.{pick_elim}
 use Rattle.asbytes.specs.Answer.{enc_access, accesses_place, answered}

@@ -1,4 +1,5 @@
 -- Invented old-byte counts are ruled out: the entry that an operation writes reads back as the machine given and the bytes overwritten.
+use Rattle.std.proofs.Common.{Some}
 use Prim.Native.Nat.{ℕ, ◌<◌}
 use mathlib.Core.Bool.{true, false}
 use mathlib.Core.List.{List, []}

@@ -21,6 +21,7 @@ use Rattle.state.specs.declared.{Dma.Dma, DmaState.DmaState, Machine.Machine}
 use Rattle.touch.specs.Who.{who_of}
 use Rattle.touch.specs.declared.who.Who.{Who}
 use Rattle.touch.specs.declared.who.Who.TheVariants.{Cpu, Dma as General, Hdma}
+use Rattle.tally.proofs.Writes.{firsts-take}
 use Rattle.tally.specs.Figure.{Made, writes, reads, by_general, by_hdma}
 use Rattle.tallied.specs.Tied.{cycle_made, only, none, Says, Quiet, Served, TiedAt, Tied}
 use Rattle.tallied.proofs.Count.{listed, Has, byte_has}
@@ -62,13 +63,6 @@ module _ (rom : List ℕ) (w : World) (d : Dma) (u : ℕ) (v : World) (held : Bo
   tied (Hdma ch) (inl g) = inl (quiet (Hdma ch) g)
   tied (Hdma ch) (inr (inl g)) = inr (inl (served ch _ g (first-counts rom (unqueued (at w d)) ch start)))
   tied (Hdma ch) (inr (inr g)) = inr (inr (served ch _ g (line-counts rom (unqueued (at w d)) ch start)))
-
--- the places of a log that has room for its accesses are those accesses
-firsts-take : (n : ℕ) (items : List Access) → n ≤ length items → firsts n items ≡ take n items
-unfolding firsts
-firsts-take zero items h = refl
-firsts-take (suc n) items h =
-    ap (λ (l : List Access). l ++ (get_or items n no_access ∷ [])) (firsts-take n items (omega arith)) ∙ sym (take-suc items n no_access (omega arith))
 
 module _ (rom : List ℕ) (m : Machine) (l h : List ℕ) (event : Event) (line hit : Bool) where
   -- the world before the DMA unit's turn, the cycle, and the cycle as it is counted

@@ -1,7 +1,8 @@
 -- The writes of a log, counted one by one.
-use Rattle.std.proofs.Common.{◌≡◌, ℕ, zero, suc, ◌+◌, ◌<◌, ◌≤◌, Bool, true, false, List, [], ◌∷◌, ◌++◌, length, get_or, sym, refl, ap, ◌∙◌, add-one, arith, length-append}
+use Rattle.std.proofs.Common.{◌≡◌, ℕ, zero, suc, ◌+◌, ◌<◌, ◌≤◌, Bool, true, false, List, [], ◌∷◌, ◌++◌, min, length, get_or, take, take-suc, take_all, sym, refl, ap, ◌∙◌, add-one, arith, length-append}
 use mir.Val.{bool_byte}
-use Rattle.bus.specs.{Access.no_access, Access.firsts, declared.access.Access.Access}
+use Rattle.std.proofs.lemmas.List.{length-take}
+use Rattle.bus.specs.{Access.Log, Access.no_access, Access.firsts, Access.accesses_of, declared.access.Access.Access}
 use Rattle.tally.specs.Figure.{writes}
 
 pub length-firsts : (n : ℕ) (items : List Access) → length (firsts n items) ≡ n
@@ -18,27 +19,35 @@ pub bool-one : (b : Bool) → bool_byte b ≤ 1
 bool-one true = omega arith
 bool-one false = omega arith
 
--- of the first i places n are writes
-pub record Seen (items : List Access) (n i : ℕ) : Type 0 where
-  pub is : n ≡ writes (firsts i items)
+-- the first places of a log, as far as it has them
+pub firsts-take : (n : ℕ) (items : List Access) → n ≤ length items → firsts n items ≡ take n items
+unfolding firsts
+firsts-take zero items h = refl
+firsts-take (suc n) items h =
+    ap (λ (l : List Access). l ++ (get_or items n no_access ∷ [])) (firsts-take n items (omega arith)) ∙ sym (take-suc items n no_access (omega arith))
+
+-- what a log lends is its accesses
+pub held-accesses : (log : Log) {xs : List Access} → xs ≡ take (min log.count 11) log.items → length xs ≡ min log.count 11 → xs ≡ accesses_of log
+held-accesses log e l =
+    let n = min log.count 11 in e ∙ sym (firsts-take n log.items (omega (arith, l, ap length e, length-take n log.items)))
+
+-- of the first i accesses n are writes
+pub record Seen (xs : List Access) (n i : ℕ) : Type 0 where
+  pub is : n ≡ writes (take i xs)
   pub few : n ≤ i
 
-module _ (items : List Access) where
-  pub seen_none : Seen items 0 0
-  unfolding writes firsts
+module _ (xs : List Access) where
+  pub seen_none : Seen xs 0 0
+  unfolding writes
   seen_none = record { is = refl; few = omega arith }
 
-  pub seen_more : {n i : ℕ} {a : Access} → Seen items n i → a ≡ get_or items i no_access → Seen items (n + bool_byte a.write) (i + 1)
-  unfolding firsts
-  seen_more {n} {i} {a} s e =
-      let m = writes-last (firsts i items) (get_or items i no_access) in
+  pub seen_more : {n i : ℕ} → Seen xs n i → i < length xs → Seen xs (n + bool_byte (get_or xs i no_access).write) (i + 1)
+  seen_more {n} {i} s h =
+      let a = get_or xs i no_access in
       record {
-        is = rw (add-one i) (ap (λ (k : ℕ). k + bool_byte a.write) s.is ∙ ap (λ (x : Access). writes (firsts i items) + bool_byte x.write) e ∙ sym m);
+        is = rw (add-one i) (ap (λ (k : ℕ). k + bool_byte a.write) s.is ∙ sym (writes-last (take i xs) a) ∙ ap writes (sym (take-suc xs i no_access h)));
         few = omega (arith, s.few, bool-one a.write);
       }
 
-  pub seen-room : {n i : ℕ} → Seen items n i → i < 11 → (b : Bool) → n + bool_byte b ≤ 11
-  seen-room s h b = omega (arith, s.few, bool-one b)
-
-  pub seen_all : (n i : ℕ) {count : ℕ} → Seen items n i → i ≡ count → n ≡ writes (firsts count items)
-  seen_all n i s e = s.is ∙ ap (λ (k : ℕ). writes (firsts k items)) e
+  pub seen_all : {n i : ℕ} → Seen xs n i → length xs ≤ i → n ≡ writes xs
+  seen_all {n} {i} s h = s.is ∙ ap writes (take_all i xs h)

@@ -19,13 +19,13 @@ pub struct Share {
     pub held: u64,
 }
 
-// How many of the accesses are writes.
+// How many accesses of a log are writes.
 fn written(log: Log) -> u64
     ensures { result ≡ writes (accesses_of log) }
 {
     let mut n: u64 = 0;
-    for i in 0..log.count.min(11) {
-        n += log.items[i as usize].write as u64;
+    for a in log.held() {
+        n += a.write as u64;
     }
     n
 }
@@ -63,6 +63,6 @@ pub fn share_of(who: Who, held: bool, after: DmaState, log: Log) -> Share
     ensures { result ≡ share_of (made_by who held after log) }
 {
     let w = written(log);
-    let read = (log.count.min(11) as u64).saturating_sub(w);
+    let read = (log.held().len() as u64).saturating_sub(w);
     share_by(who, w, read, after as u64, held as u64)
 }

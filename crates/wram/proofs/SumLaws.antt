@@ -1,5 +1,5 @@
 -- The sum of the banks: bytes added one after the other; a byte put at a place; old bytes that go back.
-use Rattle.std.proofs.Common.{Option, None, Some, ◌≡◌, ℕ, zero, suc, ◌+◌, ◌-◌, ◌*◌, ◌%◌, ◌^◌, ◌<◌, ◌≤◌, min, Bool, true, false, not, ◌&&◌, eqb, ltb, List, [], ◌∷◌, ◌++◌, length, get_or, take, set, sym, refl, ap, ◌∙◌, true≢false, length-set, take_all, get_or-set_other, take-suc, get_or-set_same, ltb-true, le-ltb, lt-ltb, eq-eqb, eqb-true}
+use Rattle.std.proofs.Common.{Option, None, Some, ◌≡◌, ℕ, zero, suc, ◌+◌, ◌-◌, ◌*◌, ◌%◌, ◌^◌, ◌<◌, ◌≤◌, min, Bool, true, false, not, ◌&&◌, eqb, ltb, List, [], ◌∷◌, ◌++◌, length, get_or, take, set, sym, refl, ap, ◌∙◌, true≢false, length-set, get_or-set_other, take-suc, get_or-set_same, ltb-true, le-ltb, lt-ltb, eq-eqb, eqb-true}
 use Rattle.std.proofs.lemmas.List.{length-take, get_or-take}
 use mathlib.Core.Bool.{beq, and-eq-true_iff}
 use native.Mathlib.{Decide.dec_lt, Nat.mod-add-mod, Omega.arith}

@@ -7,6 +7,7 @@ ghost use Rattle.wram.specs.Sum.{total, ram_sum, follows};
 
 use crate::{Old, Olds, Place, Ram, place_of};
 
+#[tactic(auto, using(crate::proofs::SumLaws::added_none, crate::proofs::SumLaws::added_next))]
 fn bank_sum(bank: &[u8]) -> u32
     ensures { result ≡ total bank.now % 2 ^ 32 }
 {
@@ -17,6 +18,7 @@ fn bank_sum(bank: &[u8]) -> u32
     sum
 }
 
+#[tactic(auto, unfolding(crate::specs::Sum::ram_sum))]
 pub fn ram_sum(low: &[u8], high: &[u8]) -> u32
     ensures { result ≡ ram_sum (banks low.now high.now) }
 {

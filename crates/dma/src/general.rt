@@ -48,11 +48,11 @@ fn after_byte(bus: &mut Bus<'_, '_>, dma: &mut Dma, channel: u8, step: u32)
 pub fn dma_step(bus: &mut Bus<'_, '_>, dma: &mut Dma)
     ensures { unit bus.new dma.new ≡ left_on bus.old (dma_step bus.old.rom.now (unit_on bus.old dma.old)) }
 {
-    if let Some(DmaProgress { channel, unit }) = dma.progress {
-        transfer_byte(bus, channel, unit);
-        after_byte(bus, dma, channel, unit);
-    } else {
+    let Some(DmaProgress { channel, unit }) = dma.progress else {
         let mask = bus.mdmaen();
         choose(dma, mask);
-    }
+        return;
+    };
+    transfer_byte(bus, channel, unit);
+    after_byte(bus, dma, channel, unit);
 }

@@ -9,7 +9,7 @@ ghost use Rattle.way.specs.Seen.{wait_at, clock_at, nmi_at, base_at, unit_at, bs
 ghost use Rattle.way.specs.Way.{pressed_tests, calm_tests, waiting, due_tests, trip_tests, way_number, turn_by, kind_of, plain_tests, lent_tests, way_of};
 
 use asbytes::MACHINE_SIZE;
-use asbytes::bytes::{head_bytes, kept_at, length_at, slot_at};
+use asbytes::bytes::{kept_at, length_at, slot_at};
 use bus::route::{leads_to_memory, route_of};
 use fields::word::{byte, eight, four, two};
 use layout::{
@@ -148,7 +148,10 @@ fn turn_of(s: &[u8]) -> Way
 fn image_ok(s: &[u8]) -> bool
     ensures { result ≡ entry_ok (head_of s.now) }
 {
-    entry_ok(&head_bytes(s))
+    match s.first_chunk() {
+        Some(e) => entry_ok(e),
+        None => false,
+    }
 }
 
 // Bytes are read one by one: the call before wrote some of them, and a wide read would wait for that. The ranges are tested last, since

@@ -94,10 +94,6 @@ puts-room (x ∷ xs) l n h =
     let P : Sheet → Type 0 = λ (s : Sheet). (shown_of (puts s xs) ≡ take n l ++ (x ∷ xs)) × ((puts s xs).at ≡ n + suc (length xs)) in
     subst P (sym (push-room l n x here)) (r.0 ∙ rw t (append_assoc (take n l) (x ∷ []) xs), r.1 ∙ omega arith)
 
--- no byte, with the place that it is put at in any words
-pub put_none : (s : Sheet) → puts s [] ≡ s
-put_none = puts_none
-
 -- with `puts` opened: two texts, one after the other
 pub put_both : (s : Sheet) (a b : List ℕ) → foldl push s (a ++ b) ≡ foldl push (foldl push s a) b
 put_both s a b = foldl-append push s a b
@@ -138,3 +134,6 @@ put_no_numbers s f k = refl
 
 pub put_more_numbers : (s : Sheet) (f : ℕ → List ℕ) (n : ℕ) → foldl push s (each f (n + 1) 0) ≡ foldl push (foldl push s (each f n 0)) (f n)
 put_more_numbers s f n = rw (add-one, each_last f n 0, zero-add) (foldl-append push s (each f n 0) (f n))
+
+-- what a function of puts needs, with `puts` opened
+pub ruleset texts = (put_both, put_no_texts, put_more_texts, put_no_numbers, put_more_numbers)

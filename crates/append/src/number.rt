@@ -38,7 +38,7 @@ impl<'a> Sheet<'a> {
     }
 
     // Bytes in base 16, each behind `before`.
-    #[tactic(auto, unfolding(crate::specs::Sheet::puts), using(crate::proofs::Laws::put_no_texts, crate::proofs::Laws::put_more_texts, crate::proofs::Laws::put_both))]
+    #[tactic(auto, unfolding(crate::specs::Sheet::puts), using(crate::proofs::Laws::texts))]
     pub fn hexes(&mut self, before: &[u8], s: &[u8])
         ensures { self.new ≡ putting self.old (Number·hexes before.now s.now) }
     {

@@ -1,5 +1,5 @@
 // The bytes of a fill or a ROM, 16 to a line.
-#![tactic(auto, unfolding(append::specs::Sheet::puts, crate::specs::Body::lines_text), using(append::proofs::Laws::put_both, append::proofs::Laws::put_no_numbers, append::proofs::Laws::put_more_numbers, crate::proofs::Lines::line_some, crate::proofs::Lines::line_none))]
+#![tactic(auto, unfolding(append::specs::Sheet::puts, crate::specs::Body::lines_text), using(append::proofs::Laws::texts, crate::proofs::Lines::line_some, crate::proofs::Lines::line_none))]
 
 ghost use Rattle.std.specs.Prelude.{◌≡◌};
 ghost use Rattle.append.specs.Lent.{putting};

@@ -1,5 +1,5 @@
 // A bench file as text: settings, fill, ROM, rows.
-#![tactic(auto, unfolding(append::specs::Sheet::puts, crate::specs::List::script_text, crate::specs::List::list_text, crate::specs::List::settings_text), using(append::proofs::Laws::put_both, append::proofs::Laws::put_no_numbers, append::proofs::Laws::put_more_numbers))]
+#![tactic(auto, unfolding(append::specs::Sheet::puts, crate::specs::List::script_text, crate::specs::List::list_text, crate::specs::List::settings_text), using(append::proofs::Laws::texts))]
 
 ghost use Rattle.std.specs.Prelude.{◌≡◌};
 ghost use Rattle.append.specs.Lent.{putting};

@@ -1,5 +1,5 @@
 // A row of a script as a line of text.
-#![tactic(auto, unfolding(append::specs::Sheet::puts, crate::specs::Row::event_text, crate::specs::Row::flags_text, crate::specs::Row::cycles_text, crate::specs::Row::pad_text, crate::specs::Row::plug_text, crate::specs::Row::read_text, crate::specs::Row::write_text, crate::specs::Row::answer_text), using(append::proofs::Laws::put_both, std::proofs::lemmas::Bool::Decides::nat_tests))]
+#![tactic(auto, unfolding(append::specs::Sheet::puts, crate::specs::Row::event_text, crate::specs::Row::flags_text, crate::specs::Row::cycles_text, crate::specs::Row::pad_text, crate::specs::Row::plug_text, crate::specs::Row::read_text, crate::specs::Row::write_text, crate::specs::Row::answer_text), using(append::proofs::Laws::texts, std::proofs::lemmas::Bool::Decides::nat_tests))]
 
 ghost use Rattle.std.specs.Prelude.{◌≡◌};
 ghost use Rattle.append.specs.Lent.{putting};
@@ -111,7 +111,7 @@ pub fn number_line(out: &mut Sheet<'_>, word: &[u8], n: u16)
 }
 
 // The line of a row of 8 bytes; nothing for a kind that there is not.
-#[tactic(auto, unfolding(crate::specs::Row::row_text, crate::specs::Row::back_text), using(append::proofs::Laws::put_none, std::proofs::lemmas::Bool::Decides::nat_tests))]
+#[tactic(auto, unfolding(crate::specs::Row::row_text, crate::specs::Row::back_text), using(append::proofs::Laws::puts_none, std::proofs::lemmas::Bool::Decides::nat_tests))]
 pub fn write_row(out: &mut Sheet<'_>, row: &[u8])
     ensures { out.new ≡ putting out.old (row_text row.now) }
 {

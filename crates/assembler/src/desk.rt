@@ -1,9 +1,9 @@
 // The bytes that a text says, gathered in three lent buffers: settings and fill, ROM, script.
 ghost use Rattle.std.specs.Prelude.{◌≡◌};
-ghost use Rattle.append.specs.Sheet.{sheet, puts};
+ghost use Rattle.append.specs.Lent.{putting};
 ghost use Rattle.assembler.specs.Desk.{front_of, rom_of, script_of, state, stepped, runs, opened, gathered};
 
-use append::put;
+use append::Sheet;
 use reader::draft::Draft;
 use reader::reader::{Reader, read, start};
 
@@ -17,63 +17,58 @@ pub struct Desk {
 }
 
 // Settings, and bytes of the fill.
-#[tactic(auto, unfolding(crate::specs::Desk::front_of))]
-fn to_front(out: &mut [u8], at: usize, d: Draft) -> usize
-    ensures { sheet out.new result ≡ puts (sheet out.old at) (front_of d) }
+#[tactic(auto, unfolding(crate::specs::Desk::front_of), using(append::proofs::Laws::puts_none, std::proofs::lemmas::Bool::Decides::nat_tests))]
+fn to_front(out: &mut Sheet<'_>, d: Draft)
+    ensures { out.new ≡ putting out.old (front_of d) }
 {
-    if d.emit == 1 {
-        let t = [d.b1];
-        return put(out, at, &t);
+    match d.emit {
+        1 => out.put(&[d.b1]),
+        2 => out.put(&[d.b1, d.b2]),
+        _ => (),
     }
-    if d.emit == 2 {
-        let t = [d.b1, d.b2];
-        return put(out, at, &t);
-    }
-    at
 }
 
 // Bytes of the ROM, or the lent file.
-#[tactic(auto, unfolding(crate::specs::Desk::rom_of))]
-fn to_rom(out: &mut [u8], at: usize, d: Draft, file: &[u8]) -> usize
-    ensures { sheet out.new result ≡ puts (sheet out.old at) (rom_of file.now d) }
+#[tactic(auto, unfolding(crate::specs::Desk::rom_of), using(append::proofs::Laws::puts_none, std::proofs::lemmas::Bool::Decides::nat_tests))]
+fn to_rom(out: &mut Sheet<'_>, d: Draft, file: &[u8])
+    ensures { out.new ≡ putting out.old (rom_of file.now d) }
 {
-    if d.emit == 4 {
-        return put(out, at, file);
+    match d.emit {
+        4 => out.put(file),
+        5 => out.put(&[d.b1]),
+        _ => (),
     }
-    if d.emit == 5 {
-        let t = [d.b1];
-        return put(out, at, &t);
-    }
-    at
 }
 
 // Rows.
-#[tactic(auto, unfolding(crate::specs::Desk::script_of))]
-fn to_script(out: &mut [u8], at: usize, d: Draft) -> usize
-    ensures { sheet out.new result ≡ puts (sheet out.old at) (script_of d) }
+#[tactic(auto, unfolding(crate::specs::Desk::script_of), using(append::proofs::Laws::puts_none, std::proofs::lemmas::Bool::Decides::nat_tests))]
+fn to_script(out: &mut Sheet<'_>, d: Draft)
+    ensures { out.new ≡ putting out.old (script_of d) }
 {
     if d.emit == 3 {
-        let t = [d.kind, d.b1, d.b2, d.b3, d.b4, 0, 0, 0];
-        return put(out, at, &t);
+        out.put(&[d.kind, d.b1, d.b2, d.b3, d.b4, 0, 0, 0]);
     }
-    at
 }
 
 // One character of the text.
+#[tactic(auto, unfolding(crate::specs::Desk::stepped))]
 fn step(k: Desk, front: &mut [u8], rom: &mut [u8], script: &mut [u8], file: &[u8], c: u8) -> Desk
     ensures { state result front.new rom.new script.new
         ≡ stepped file.now (state k front.old rom.old script.old) c }
 {
     let r = read(k.reader, c);
     let d = r.draft;
-    let a = to_front(front, k.front, d);
-    let b = to_rom(rom, k.rom, d, file);
-    let s = to_script(script, k.script, d);
+    let mut a = Sheet { text: front, at: k.front };
+    let mut b = Sheet { text: rom, at: k.rom };
+    let mut s = Sheet { text: script, at: k.script };
+    to_front(&mut a, d);
+    to_rom(&mut b, d, file);
+    to_script(&mut s, d);
     Desk {
         reader: r,
-        front: a,
-        rom: b,
-        script: s,
+        front: a.at,
+        rom: b.at,
+        script: s.at,
     }
 }
 

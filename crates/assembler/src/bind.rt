@@ -12,15 +12,15 @@ use append::Sheet;
 fn size(n: usize) -> u16
     ensures { result ≡ size_of n }
 {
-    if n < 65536 { n as u16 } else { 65535 }
+    n.min(65535) as u16
 }
 
 // The fill stands behind the 2 bytes of the settings.
-#[tactic(auto, unfolding(crate::specs::Bind::fill_size))]
+#[tactic(auto, unfolding(crate::specs::Bind::fill_size, crate::specs::Bind::size_of))]
 fn fill_size(n: usize) -> u16
     ensures { result ≡ fill_size n }
 {
-    if n < 2 { 0 } else { size(n - 2) }
+    size(n.saturating_sub(2))
 }
 
 // A row of the contents.

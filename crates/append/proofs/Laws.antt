@@ -11,6 +11,8 @@ use Rattle.std.proofs.lemmas.Grind.{flat_map-append}
 use Rattle.std.proofs.lemmas.List.{replicate-append-replicate}
 use borrow.Author.Tests.{lt-ltb, le-ltb}
 use Rattle.append.specs.Sheet.{Sheet, sheet, push, puts, shown_of}
+use Rattle.append.specs.Lent.{holding, shown, putting}
+use Rattle.append.specs.declared.Sheet.{Sheet as Lent}
 use Rattle.append.specs.Texts.{each}
 
 -- no byte
@@ -134,6 +136,11 @@ put_no_numbers s f k = refl
 
 pub put_more_numbers : (s : Sheet) (f : ℕ → List ℕ) (n : ℕ) → foldl push s (each f (n + 1) 0) ≡ foldl push (foldl push s (each f n 0)) (f n)
 put_more_numbers s f n = rw (add-one, each_last f n 0, zero-add) (foldl-append push s (each f n 0) (f n))
+
+-- the same of a lent sheet: two texts put, one after the other
+pub put_then : (s : Lent) {t u : Lent} (a b : List ℕ) → t ≡ putting s a → u ≡ putting t b → u ≡ putting s (a ++ b)
+unfolding puts
+put_then s a b p q = q ∙ ap (λ (x : Lent). putting x b) p ∙ ap (holding s) (sym (foldl-append push (shown s) a b))
 
 -- what a function of puts needs, with `puts` opened
 pub ruleset texts = (put_both, put_no_texts, put_more_texts, put_no_numbers, put_more_numbers)

@@ -13,7 +13,8 @@ pub struct Sheet<'a> {
 }
 
 impl<'a> Sheet<'a> {
-    ghost use Rattle.append.specs.Lent.{pushed, putting};
+    ghost use Rattle.append.specs.Lent.{shown, pushed, putting};
+    ghost use Rattle.append.specs.Sheet.{shown_of};
 
     // One byte.
     #[tactic(auto, unfolding(crate::specs::Sheet::push))]
@@ -33,6 +34,17 @@ impl<'a> Sheet<'a> {
     {
         for byte in src {
             self.push(*byte);
+        }
+    }
+
+    // What stands in it so far.
+    pub fn written(&self) -> &[u8]
+        ensures { result.now ≡ shown_of (shown self.now) }
+    {
+        if self.at < self.text.len() {
+            &self.text[..self.at]
+        } else {
+            self.text
         }
     }
 }

@@ -1,7 +1,6 @@
 // What was expected, in words.
 use crate::mark::marks_in;
-use append::number::decimal;
-use append::put;
+use append::Sheet;
 use dump::page::signs;
 use fields::part::part;
 use input::complaint::say;
@@ -10,92 +9,73 @@ use reader::reader::read;
 use reader::text::{fault, read_all};
 
 // At the start of a line.
-fn line_expected(out: &mut [u8], at: usize, phase: u8) -> usize {
+fn line_expected(out: &mut Sheet<'_>, phase: u8) {
     match phase {
-        0 => put(out, at, b"bitcycles"),
-        1 => put(out, at, b"fill"),
-        2 => put(
-            out,
-            at,
-            b"fill, rom or a row: cycles, read, write, pad, plug, answer, back",
-        ),
-        3 => put(
-            out,
-            at,
-            b"rom or a row: cycles, read, write, pad, plug, answer, back",
-        ),
-        _ => put(
-            out,
-            at,
-            b"a row: cycles, read, write, pad, plug, answer, back",
-        ),
+        0 => out.put(b"bitcycles"),
+        1 => out.put(b"fill"),
+        2 => out.put(b"fill, rom or a row: cycles, read, write, pad, plug, answer, back"),
+        3 => out.put(b"rom or a row: cycles, read, write, pad, plug, answer, back"),
+        _ => out.put(b"a row: cycles, read, write, pad, plug, answer, back"),
     }
 }
 
 // Where a number is expected.
-fn number_expected(out: &mut [u8], at: usize, state: u8) -> usize {
+fn number_expected(out: &mut Sheet<'_>, state: u8) {
     match state {
-        1 => put(out, at, b"a count from 1 to 65535"),
-        3 => put(out, at, b"an event from 0 to 255"),
-        4 => put(out, at, b"an address from $00:0000 to $FF:FFFF"),
-        6 => put(out, at, b"a port from 0 to 255"),
-        7 => put(out, at, b"a word from $0000 to $FFFF"),
-        8 => put(out, at, b"an address from $0000 to $FFFF"),
-        10 => put(out, at, b"a number from 0 to 65535"),
-        15 => put(out, at, b"a count from 1 to 65535"),
-        16 => put(out, at, b"an address from $00:0000 to $FF:FFFF"),
-        17 => put(out, at, b"a port from 0 to 255"),
-        _ => put(out, at, b"a byte from $00 to $FF"),
+        1 => out.put(b"a count from 1 to 65535"),
+        3 => out.put(b"an event from 0 to 255"),
+        4 => out.put(b"an address from $00:0000 to $FF:FFFF"),
+        6 => out.put(b"a port from 0 to 255"),
+        7 => out.put(b"a word from $0000 to $FFFF"),
+        8 => out.put(b"an address from $0000 to $FFFF"),
+        10 => out.put(b"a number from 0 to 65535"),
+        15 => out.put(b"a count from 1 to 65535"),
+        16 => out.put(b"an address from $00:0000 to $FF:FFFF"),
+        17 => out.put(b"a port from 0 to 255"),
+        _ => out.put(b"a byte from $00 to $FF"),
     }
 }
 
-fn expected(out: &mut [u8], at: usize, d: Draft) -> usize {
+fn expected(out: &mut Sheet<'_>, d: Draft) {
     let state = d.state;
     match state {
-        0 => line_expected(out, at, d.phase),
-        2 => put(out, at, b"event, line, timer or the line's end"),
-        9 => put(out, at, b"on or off"),
-        12 => put(out, at, b"a byte from $00 to $FF, or file"),
-        13 => put(out, at, b"a byte from $00 to $FF, or the line's end"),
-        14 => put(out, at, b"a file name"),
-        18 => put(out, at, b"the line's end"),
-        19 => put(out, at, b"a byte from $00 to $FF, or the line's end"),
-        _ => number_expected(out, at, state),
+        0 => line_expected(out, d.phase),
+        2 => out.put(b"event, line, timer or the line's end"),
+        9 => out.put(b"on or off"),
+        12 => out.put(b"a byte from $00 to $FF, or file"),
+        13 => out.put(b"a byte from $00 to $FF, or the line's end"),
+        14 => out.put(b"a file name"),
+        18 => out.put(b"the line's end"),
+        19 => out.put(b"a byte from $00 to $FF, or the line's end"),
+        _ => number_expected(out, state),
     }
 }
 
 // The word itself, in quotes; of a long one its first 64 characters.
-fn quoted(out: &mut [u8], at: usize, word: &[u8]) -> usize {
-    let a = put(out, at, b"`");
-    let b = signs(out, a, part(word, 0, 64));
-    put(out, b, b"`")
+fn quoted(out: &mut Sheet<'_>, word: &[u8]) {
+    out.push(b'`');
+    signs(out, part(word, 0, 64));
+    out.push(b'`');
 }
 
 // What stands there, and what was expected.
-fn found(out: &mut [u8], at: usize, text: &[u8], from: usize) -> usize {
+fn found(out: &mut Sheet<'_>, text: &[u8], from: usize) {
     let before = read_all(text);
-    let word = read(before, b' ');
-    let end = read(before, b'\n');
-    let w = word.draft;
-    let e = end.draft;
+    let w = read(before, b' ').draft;
+    let e = read(before, b'\n').draft;
     if w.emit == 9 {
-        let a = quoted(out, at, part(text, from, text.len()));
-        let b = put(out, a, b": expected ");
-        return expected(out, b, w);
+        quoted(out, part(text, from, text.len()));
+        out.put(b": expected ");
+        expected(out, w);
+    } else if e.emit == 9 {
+        out.put(b"the line ends: expected ");
+        expected(out, e);
+    } else if e.phase < 2 {
+        out.put(b"the text ends: expected ");
+        line_expected(out, e.phase);
+    } else {
+        out.put(b"too long: a fill has at most 4096 bytes, a bench file 65536");
     }
-    if e.emit == 9 {
-        let a = put(out, at, b"the line ends: expected ");
-        return expected(out, a, e);
-    }
-    if e.phase < 2 {
-        let a = put(out, at, b"the text ends: expected ");
-        return line_expected(out, a, e.phase);
-    }
-    put(
-        out,
-        at,
-        b"too long: a fill has at most 4096 bytes, a bench file 65536",
-    )
 }
 
 // One line on standard error: the line, the word, what was expected.
@@ -103,11 +83,14 @@ pub fn report(rt: HostRuntime, text: &[u8]) {
     let upto = part(text, 0, fault(text));
     let lines = marks_in(upto, 1, true);
     let words = marks_in(upto, 3, true);
-    let mut out = [0u8; 256];
-    let a = put(&mut out, 0, b"assemble: line ");
-    let b = decimal(&mut out, a, lines.next);
-    let c = put(&mut out, b, b": ");
-    let d = found(&mut out, c, upto, words.behind);
-    let e = put(&mut out, d, b"\n");
-    say(rt, part(&out, 0, e));
+    let mut out = Sheet {
+        text: &mut [0u8; 256],
+        at: 0,
+    };
+    out.put(b"assemble: line ");
+    out.decimal(lines.next);
+    out.put(b": ");
+    found(&mut out, upto, words.behind);
+    out.push(b'\n');
+    say(rt, out.written());
 }

@@ -1,20 +1,18 @@
 -- The kit's digits of a number, as many as are needed, are its digits in decimal.
 use Prim.Native.Nat.{ℕ, zero, suc, ◌+◌, ◌*◌, ◌/◌, ◌%◌, ◌^◌, ◌-◌, ◌≤◌, ◌<◌}
 use mathlib.Core.Bool.{Bool, true, false}
-use mathlib.Core.List.{List}
+use mathlib.Core.List.{List, foldl, foldl-append}
 use mathlib.Core.Path.{◌≡◌, refl, sym, ap, ◌∙◌}
 use native.Mathlib.Numerals.{unary_clauses}
 use native.Mathlib.Omega.{arith}
 use native.Mathlib.Nat.{pow-succ', one-le-pow, mod-eq_of_lt, pow-le-pow_right}
 use lib.Dec.{leb, ltb}
-use lib.ListN.{length, take, replicate, length-append, length-replicate}
-use lib.Seq.{length-take-le}
+use lib.ListN.{length, replicate, length-append, length-replicate}
 use borrow.Author.Tests.{lt-ltb, le-ltb, leb-true, leb-false}
 use Rattle.common.proofs.TableLaws.{pick_elim}
 use Rattle.io.specs.Digits.{last_digits, hex_digit_ascii, IsDigitCount}
-use Rattle.append.specs.Sheet.{Sheet, puts}
+use Rattle.append.specs.Sheet.{Sheet, push}
 use Rattle.append.specs.Number.{decimal_in, decimal, padded}
-use Rattle.append.proofs.Laws.{then}
 
 -- k digits are at most k bytes
 most_in : (k n : ℕ) → length (decimal_in k n) ≤ k
@@ -82,22 +80,20 @@ pub few : (k n : ℕ) → n < 2 ^ 64 → IsDigitCount 10 1 n k → k ≤ 20
 few k n h f = few-by k n h f (leb k 20) refl
 
 -- what io::decimal writes: the fewest digits that hold a number of 64 bits
-pub spelled : (k n : ℕ) → k ≤ 20 → IsDigitCount 10 1 n k → last_digits 10 k n ≡ decimal n
+pub spelled : (k n : ℕ) → n < 2 ^ 64 → IsDigitCount 10 1 n k → last_digits 10 k n ≡ decimal n
 unfolding decimal
-spelled zero n m h = absurd (omega arith)
-spelled (suc k) n m h = spelled_in 20 k n m h.1 (λ z. simp unary_clauses at (h.2 (omega arith)))
+spelled zero n f h = absurd (omega arith)
+spelled (suc k) n f h = spelled_in 20 k n (few (suc k) n f h) h.1 (λ z. simp unary_clauses at (h.2 (omega arith)))
 
--- the digits put, as many as io::decimal says
-pub put-digits : (s : Sheet) {t : Sheet} (n k : ℕ) (d : List ℕ) → n < 2 ^ 64 → IsDigitCount 10 1 n k → take k d ≡ last_digits 10 k n → t ≡ puts s (take k d)
-    → t ≡ puts s (decimal n)
-put-digits s n k d h f e p = p ∙ ap (puts s) (e ∙ spelled k n (few k n h f) f)
+-- as many as it says
+as_many : (k n : ℕ) → length (last_digits 10 k n) ≡ k
+as_many zero n = refl
+as_many (suc k) n = simp length-append (omega (arith, as_many k (n / 10)))
 
 -- and spaces before them
-pub put-padded : (s : Sheet) {t u : Sheet} (w n k : ℕ) (d : List ℕ) → n < 2 ^ 64 → IsDigitCount 10 1 n k → take k d ≡ last_digits 10 k n
-    → k ≤ length d → t ≡ puts s (replicate (w - k) 32) → u ≡ puts t (take k d) → u ≡ puts s (padded w n)
+pub put_column : (s : Sheet) (w k n : ℕ) → n < 2 ^ 64 → IsDigitCount 10 1 n k
+    → foldl push (foldl push s (replicate (w - k) 32)) (last_digits 10 k n) ≡ foldl push s (padded w n)
 unfolding padded
-put-padded s w n k d h f e l p q =
-    let m = few k n h f in
-    let o : take k d ≡ decimal n = e ∙ spelled k n m f in
-    let z : length (decimal n) ≡ k = ap length (sym o) ∙ length-take-le k d l in
-    rw z (then s (replicate (w - k) 32) (decimal n) p (q ∙ ap (puts _) o))
+put_column s w k n f h =
+    let z : length (decimal n) ≡ k = ap length (sym (spelled k n f h)) ∙ as_many k n in
+    rw (z, spelled k n f h) (sym (foldl-append push s (replicate (w - k) 32) (decimal n)))

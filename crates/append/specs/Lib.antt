@@ -1,4 +1,5 @@
 -- Bytes put one after the other into a lent buffer.
 pub mod Sheet
+pub mod Lent
 pub mod Number
 pub mod Texts

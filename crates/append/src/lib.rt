@@ -4,39 +4,54 @@
 pub mod number;
 
 ghost use Rattle.std.specs.Prelude.{◌+◌, ◌≡◌, leb};
-ghost use Rattle.append.specs.Sheet.{sheet, push, puts};
 
-// One byte; answers the place behind it.
-pub fn push_byte(out: &mut [u8], at: usize, byte: u8) -> usize
-    ensures { sheet out.new result ≡ push (sheet out.old at) byte }
-{
-    if at < out.len() {
-        out[at] = byte;
-        return at + 1;
-    }
-    at
+// A lent buffer, and the place of the next byte in it.
+#[derive(Drop)]
+pub struct Sheet<'a> {
+    pub text: &'a mut [u8],
+    pub at: usize,
 }
 
-// All bytes of `src`; answers the place behind the last.
-pub fn put(out: &mut [u8], at: usize, src: &[u8]) -> usize
-    ensures { sheet out.new result ≡ puts (sheet out.old at) src.now }
-{
-    let mut to = at;
-    let mut i = 0;
-    while i < src.len() {
-        let byte = src[i];
-        to = push_byte(out, to, byte);
-        i += 1;
+impl<'a> Sheet<'a> {
+    ghost use Rattle.append.specs.Lent.{shown, pushed, putting};
+    ghost use Rattle.append.specs.Sheet.{shown_of};
+
+    // One byte.
+    #[tactic(auto, unfolding(crate::specs::Sheet::push))]
+    pub fn push(&mut self, byte: u8)
+        ensures { self.new ≡ pushed self.old byte }
+    {
+        if self.at < self.text.len() {
+            self.text[self.at] = byte;
+            self.at += 1;
+        }
     }
-    to
+
+    // All bytes of `src`.
+    #[tactic(auto, unfolding(crate::specs::Sheet::puts), using(crate::proofs::Laws::put_more))]
+    pub fn put(&mut self, src: &[u8])
+        ensures { self.new ≡ putting self.old src.now }
+    {
+        for byte in src {
+            self.push(*byte);
+        }
+    }
+
+    // What stands in it so far.
+    pub fn written(&self) -> &[u8]
+        ensures { result.now ≡ shown_of (shown self.now) }
+    {
+        if self.at < self.text.len() {
+            &self.text[..self.at]
+        } else {
+            self.text
+        }
+    }
 }
 
 // Whether `need` more bytes have room behind the `used` ones.
 pub fn has_room(used: usize, need: usize, room: usize) -> bool
     ensures { result ≡ leb (used + need) room }
 {
-    if room < need {
-        return false;
-    }
-    if used <= room - need { true } else { false }
+    need <= room && used <= room - need
 }

@@ -1,12 +1,11 @@
-// Numbers as text, put behind what stands in a lent buffer.
-ghost use Rattle.std.specs.Prelude.{◌≡◌, ◌-◌, replicate};
-ghost use Rattle.append.specs.Sheet.{sheet, puts};
-ghost use Rattle.append.specs.Number.{glyph_of, hex_byte, hex_word};
-ghost use Rattle.append.specs.Number.{hexes as Number·hexes, decimal as Number·decimal, padded as Number·padded};
+// Numbers as text.
+ghost use Rattle.std.specs.Prelude.{◌≡◌};
+ghost use Rattle.append.specs.Number.{glyph_of};
 
-use crate::{push_byte, put};
+use crate::Sheet;
 
-// The sign of a digit, in base 16; of a larger number, of its last digit.
+#[tactic(auto, unfolding(crate::specs::Number::glyph_of))]
+// The sign of a digit, in base 16; of a larger number, of its last digit. std's Display gives numbers as text too, but promises no bytes.
 pub fn glyph(x: u8) -> u8
     ensures { result ≡ glyph_of x }
 {
@@ -14,64 +13,68 @@ pub fn glyph(x: u8) -> u8
     if d < 10 { d + 48 } else { d + 55 }
 }
 
-// A byte in base 16.
-pub fn hex_byte(out: &mut [u8], at: usize, x: u8) -> usize
-    ensures { sheet out.new result ≡ puts (sheet out.old at) (hex_byte x) }
-{
-    let t = [glyph(x / 16), glyph(x)];
-    put(out, at, &t)
-}
+impl<'a> Sheet<'a> {
+    ghost use Rattle.std.specs.Prelude.{replicate};
+    ghost use Rattle.append.specs.Lent.{putting};
+    ghost use Rattle.append.specs.Number.{hex_byte, hex_word};
+    ghost use Rattle.append.specs.Number.{hexes as Number·hexes, decimal as Number·decimal, padded as Number·padded};
 
-// A word in base 16.
-pub fn hex_word(out: &mut [u8], at: usize, x: u16) -> usize
-    ensures { sheet out.new result ≡ puts (sheet out.old at) (hex_word x) }
-{
-    let a = hex_byte(out, at, (x / 256) as u8);
-    hex_byte(out, a, (x % 256) as u8)
-}
-
-// Bytes in base 16, each behind `before`.
-pub fn hexes(out: &mut [u8], at: usize, before: &[u8], s: &[u8]) -> usize
-    ensures { sheet out.new result ≡ puts (sheet out.old at) (Number·hexes before.now s.now) }
-{
-    let mut to = at;
-    let mut i = 0;
-    while i < s.len() {
-        let a = put(out, to, before);
-        to = hex_byte(out, a, s[i]);
-        i += 1;
+    // A byte in base 16.
+    #[tactic(auto, unfolding(crate::specs::Sheet::puts))]
+    pub fn hex_byte(&mut self, x: u8)
+        ensures { self.new ≡ putting self.old (hex_byte x) }
+    {
+        self.push(glyph(x / 16));
+        self.push(glyph(x));
     }
-    to
-}
 
-// A number in decimal.
-pub fn decimal(out: &mut [u8], at: usize, n: u64) -> usize
-    ensures { sheet out.new result ≡ puts (sheet out.old at) (Number·decimal n) }
-{
-    let mut digits = [0u8; 20];
-    let k = io::decimal(n, &mut digits);
-    put(out, at, &digits[..k])
-}
-
-// One space for each number from `from` up to `to`.
-fn spaces(out: &mut [u8], at: usize, from: usize, to: usize) -> usize
-    ensures { sheet out.new result ≡ puts (sheet out.old at) (replicate (to - from) 32) }
-{
-    let mut place = at;
-    let mut i = from;
-    while i < to {
-        place = push_byte(out, place, b' ');
-        i += 1;
+    // A word in base 16.
+    #[tactic(auto, unfolding(crate::specs::Sheet::puts))]
+    pub fn hex_word(&mut self, x: u16)
+        ensures { self.new ≡ putting self.old (hex_word x) }
+    {
+        self.hex_byte((x / 256) as u8);
+        self.hex_byte((x % 256) as u8);
     }
-    place
-}
 
-// A number in decimal at the right of a column; one that is longer takes what it needs.
-pub fn padded(out: &mut [u8], at: usize, n: u64, width: usize) -> usize
-    ensures { sheet out.new result ≡ puts (sheet out.old at) (Number·padded width n) }
-{
-    let mut digits = [0u8; 20];
-    let k = io::decimal(n, &mut digits);
-    let a = spaces(out, at, k, width);
-    put(out, a, &digits[..k])
+    // Bytes in base 16, each behind `before`.
+    #[tactic(auto, unfolding(crate::specs::Sheet::puts), using(crate::proofs::Laws::texts))]
+    pub fn hexes(&mut self, before: &[u8], s: &[u8])
+        ensures { self.new ≡ putting self.old (Number·hexes before.now s.now) }
+    {
+        for x in s {
+            self.put(before);
+            self.hex_byte(*x);
+        }
+    }
+
+    // A number in decimal.
+    #[tactic(auto, using(crate::proofs::Decimal::spelled))]
+    pub fn decimal(&mut self, n: u64)
+        ensures { self.new ≡ putting self.old (Number·decimal n) }
+    {
+        let mut digits = [0u8; 20];
+        let k = io::decimal(n, &mut digits);
+        self.put(&digits[..k]);
+    }
+
+    #[tactic(auto, unfolding(crate::specs::Sheet::puts), using(crate::proofs::Laws::put_again))]
+    fn spaces(&mut self, n: usize)
+        ensures { self.new ≡ putting self.old (replicate n 32) }
+    {
+        for _ in 0..n {
+            self.push(b' ');
+        }
+    }
+
+    // A number in decimal at the right of a column; one that is longer takes what it needs.
+    #[tactic(auto, unfolding(crate::specs::Sheet::puts), using(crate::proofs::Decimal::put_column))]
+    pub fn padded(&mut self, n: u64, width: usize)
+        ensures { self.new ≡ putting self.old (Number·padded width n) }
+    {
+        let mut digits = [0u8; 20];
+        let k = io::decimal(n, &mut digits);
+        self.spaces(width.saturating_sub(k));
+        self.put(&digits[..k]);
+    }
 }

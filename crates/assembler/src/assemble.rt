@@ -5,6 +5,7 @@ ghost use Rattle.assembler.specs.Assemble.{ready_of, checked, finished, assemble
 
 use crate::bind::bind;
 use crate::desk::gather;
+use append::Sheet;
 use benchfile::check::file_check;
 use fields::part::part;
 use reader::draft::{Draft, has_failed};
@@ -29,11 +30,14 @@ fn check(out: &[u8], n: usize) -> usize
 }
 
 // The bodies bound, and checked.
+#[tactic(auto, unfolding(crate::specs::Assemble::finished))]
 fn finish(out: &mut [u8], front: &[u8], rom: &[u8], script: &[u8]) -> usize
     ensures { sheet out.new result
         ≡ finished out.old front.now rom.now script.now }
 {
-    let n = bind(out, front, rom, script);
+    let mut file = Sheet { text: out, at: 0 };
+    bind(&mut file, front, rom, script);
+    let n = file.at;
     check(out, n)
 }
 

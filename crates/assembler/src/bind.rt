@@ -1,69 +1,58 @@
 // A bench file from its bodies: contents, settings and fill, ROM, script.
+#![tactic(auto, unfolding(append::specs::Sheet::puts, crate::specs::Bind::head_of, crate::specs::Bind::bound, benchfile::specs::Build::contents_of), using(append::proofs::Laws::texts))]
+
 ghost use Rattle.std.specs.Prelude.{◌≡◌};
-ghost use Rattle.append.specs.Sheet.{sheet, puts};
+ghost use Rattle.append.specs.Lent.{putting};
 ghost use Rattle.benchfile.specs.Build.{contents_of};
-ghost use Rattle.fields.specs.Little.{le};
 ghost use Rattle.assembler.specs.Bind.{size_of, fill_size, head_of, bound};
 
-use append::put;
+use append::Sheet;
 
 // A length as a file can hold it; a longer body makes no file.
 #[tactic(auto, unfolding(crate::specs::Bind::size_of))]
 fn size(n: usize) -> u16
     ensures { result ≡ size_of n }
 {
-    if n < 65536 { n as u16 } else { 65535 }
+    n.min(65535) as u16
 }
 
 // The fill stands behind the 2 bytes of the settings.
-#[tactic(auto, unfolding(crate::specs::Bind::fill_size))]
+#[tactic(auto, unfolding(crate::specs::Bind::fill_size, crate::specs::Bind::size_of))]
 fn fill_size(n: usize) -> u16
     ensures { result ≡ fill_size n }
 {
-    if n < 2 { 0 } else { size(n - 2) }
-}
-
-fn four(x: u32) -> [u8; 4]
-    ensures { result ≡ le 4 x }
-{
-    [
-        (x % 256) as u8,
-        (x / 256 % 256) as u8,
-        (x / 256 / 256 % 256) as u8,
-        (x / 256 / 256 / 256 % 256) as u8,
-    ]
+    size(n.saturating_sub(2))
 }
 
 // A row of the contents.
-fn head(out: &mut [u8], at: usize, start: u32, length: u32) -> usize
-    ensures { sheet out.new result ≡ puts (sheet out.old at) (head_of start length) }
+fn head(out: &mut Sheet<'_>, start: u32, length: u32)
+    ensures { out.new ≡ putting out.old (head_of start length) }
 {
-    let s = four(start);
-    let n = four(length);
-    let a = put(out, at, &s);
-    put(out, a, &n)
+    out.put(&start.to_le_bytes());
+    out.put(&length.to_le_bytes());
 }
 
 // The contents, with settings of 2 bytes.
-fn contents(out: &mut [u8], fill: u16, rom: u16, script: u16) -> usize
-    ensures { sheet out.new result ≡ puts (sheet out.old 0) (contents_of 2 fill rom script) }
+fn contents(out: &mut Sheet<'_>, fill: u16, rom: u16, script: u16)
+    ensures { out.new ≡ putting out.old (contents_of 2 fill rom script) }
 {
-    let a = head(out, 0, 32, 2);
-    let b = head(out, a, 34, fill as u32);
-    let c = head(out, b, 34 + fill as u32, rom as u32);
-    head(out, c, 34 + fill as u32 + rom as u32, script as u32)
+    head(out, 32, 2);
+    head(out, 34, fill as u32);
+    head(out, 34 + fill as u32, rom as u32);
+    head(out, 34 + fill as u32 + rom as u32, script as u32);
 }
 
 // `front` is settings and fill.
-pub fn bind(out: &mut [u8], front: &[u8], rom: &[u8], script: &[u8]) -> usize
-    ensures { sheet out.new result
-        ≡ puts (sheet out.old 0) (bound front.now rom.now script.now) }
+pub fn bind(out: &mut Sheet<'_>, front: &[u8], rom: &[u8], script: &[u8])
+    ensures { out.new ≡ putting out.old (bound front.now rom.now script.now) }
 {
-    let x = fill_size(front.len());
-    let y = size(rom.len());
-    let z = size(script.len());
-    let a = contents(out, x, y, z);
-    let b = put(out, a, front);
-    let c = put(out, b, rom);
-    put(out, c, script)
+    contents(
+        out,
+        fill_size(front.len()),
+        size(rom.len()),
+        size(script.len()),
+    );
+    out.put(front);
+    out.put(rom);
+    out.put(script);
 }

@@ -1,9 +1,9 @@
 // The bytes that a text says, gathered in three lent buffers: settings and fill, ROM, script.
 ghost use Rattle.std.specs.Prelude.{◌≡◌};
-ghost use Rattle.append.specs.Sheet.{sheet, puts};
+ghost use Rattle.append.specs.Lent.{putting};
 ghost use Rattle.assembler.specs.Desk.{front_of, rom_of, script_of, state, stepped, runs, opened, gathered};
 
-use append::put;
+use append::Sheet;
 use reader::draft::Draft;
 use reader::kinds::Emit;
 use reader::reader::{Reader, read, start};
@@ -19,51 +19,66 @@ pub struct Desk {
 
 // Settings, and bytes of the fill.
 #[tactic(auto, unfolding(crate::specs::Desk::front_of), using(append::proofs::Laws::puts_none))]
-fn to_front(out: &mut [u8], at: usize, d: Draft) -> usize
-    ensures { sheet out.new result ≡ puts (sheet out.old at) (front_of d) }
+fn to_front(out: &mut Sheet<'_>, d: Draft)
+    ensures { out.new ≡ putting out.old (front_of d) }
 {
     match d.emit {
-        Emit::FillByte => put(out, at, &[d.b1]),
-        Emit::Settings => put(out, at, &[d.b1, d.b2]),
-        _ => at,
+        Emit::FillByte => out.put(&[d.b1]),
+        Emit::Settings => out.put(&[d.b1, d.b2]),
+        _ => (),
     }
 }
 
 // Bytes of the ROM, or the lent file.
 #[tactic(auto, unfolding(crate::specs::Desk::rom_of), using(append::proofs::Laws::puts_none))]
-fn to_rom(out: &mut [u8], at: usize, d: Draft, file: &[u8]) -> usize
-    ensures { sheet out.new result ≡ puts (sheet out.old at) (rom_of file.now d) }
+fn to_rom(out: &mut Sheet<'_>, d: Draft, file: &[u8])
+    ensures { out.new ≡ putting out.old (rom_of file.now d) }
 {
     match d.emit {
-        Emit::RomFile => put(out, at, file),
-        Emit::RomByte => put(out, at, &[d.b1]),
-        _ => at,
+        Emit::RomFile => out.put(file),
+        Emit::RomByte => out.put(&[d.b1]),
+        _ => (),
     }
 }
 
 // Rows: the number of a kind is the row's first byte in a file.
 #[tactic(auto, unfolding(crate::specs::Desk::script_of), using(append::proofs::Laws::puts_none))]
-fn to_script(out: &mut [u8], at: usize, d: Draft) -> usize
-    ensures { sheet out.new result ≡ puts (sheet out.old at) (script_of d) }
+fn to_script(out: &mut Sheet<'_>, d: Draft)
+    ensures { out.new ≡ putting out.old (script_of d) }
 {
-    match d.emit {
-        Emit::Row => put(out, at, &[d.kind as u8, d.b1, d.b2, d.b3, d.b4, 0, 0, 0]),
-        _ => at,
+    if matches!(d.emit, Emit::Row) {
+        out.put(&[d.kind as u8, d.b1, d.b2, d.b3, d.b4, 0, 0, 0]);
     }
 }
 
 // One character of the text.
+#[tactic(auto, unfolding(crate::specs::Desk::stepped))]
 fn step(k: Desk, front: &mut [u8], rom: &mut [u8], script: &mut [u8], file: &[u8], c: u8) -> Desk
     ensures { state result front.new rom.new script.new
         ≡ stepped file.now (state k front.old rom.old script.old) c }
 {
     let reader = read(k.reader, c);
     let d = reader.draft;
+    let mut a = Sheet {
+        text: front,
+        at: k.front,
+    };
+    let mut b = Sheet {
+        text: rom,
+        at: k.rom,
+    };
+    let mut s = Sheet {
+        text: script,
+        at: k.script,
+    };
+    to_front(&mut a, d);
+    to_rom(&mut b, d, file);
+    to_script(&mut s, d);
     Desk {
         reader,
-        front: to_front(front, k.front, d),
-        rom: to_rom(rom, k.rom, d, file),
-        script: to_script(script, k.script, d),
+        front: a.at,
+        rom: b.at,
+        script: s.at,
     }
 }
 

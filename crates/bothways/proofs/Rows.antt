@@ -111,6 +111,7 @@ module _ (b l h : ℕ) (lb : b < 256) (ll : l < 256) (lh : h < 256) where
   -- a read row comes back
   pub read_back : (k : Kind) (x₁ x₂ x₃ x₄ : ℕ) → (p : Phase) → Open p
       → quietly (before p k x₁ x₂ x₃ x₄ emits.Nothing) (read_text b l h) ≡ before phases.Rows kinds.Read b l h 0 emits.Row
+  unfolding read_text
   read_back k x₁ x₂ x₃ x₄ p o =
       let rest : List ℕ = 36 ∷ glyph_of (b / 16) ∷ glyph_of b ∷ 58 ∷ glyph_of (h / 16) ∷ glyph_of h ∷ glyph_of (l / 16) ∷ glyph_of l ∷ 10 ∷ [] in
       row_word k x₁ x₂ x₃ x₄ rest p o read-row
@@ -140,6 +141,7 @@ module _ (b l h : ℕ) (lb : b < 256) (ll : l < 256) (lh : h < 256) where
   -- a write row comes back
   pub write-back : (x : ℕ) (k : Kind) (x₁ x₂ x₃ x₄ : ℕ) → x < 256 → (p : Phase) → Open p
       → quietly (before p k x₁ x₂ x₃ x₄ emits.Nothing) (write_text b l h x) ≡ before phases.Rows kinds.Write b l h x emits.Row
+  unfolding write_text
   write-back x k x₁ x₂ x₃ x₄ lx p o =
       let end : List ℕ = codes " = $" ++ glyph_of (x / 16) ∷ glyph_of x ∷ 10 ∷ [] in
       let rest : List ℕ = 36 ∷ glyph_of (b / 16) ∷ glyph_of b ∷ 58 ∷ glyph_of (h / 16) ∷ glyph_of h ∷ glyph_of (l / 16) ∷ glyph_of l ∷ end in
@@ -168,6 +170,7 @@ module _ (b l h : ℕ) (lb : b < 256) (ll : l < 256) (lh : h < 256) where
   -- an answer row comes back
   pub answer_back : (x : ℕ) (k : Kind) (x₁ x₂ x₃ x₄ : ℕ) → x < 256 → (p : Phase) → Open p
       → quietly (before p k x₁ x₂ x₃ x₄ emits.Nothing) (answer_text l h x) ≡ before phases.Rows kinds.Answer 0 l h x emits.Row
+  unfolding answer_text
   answer_back x k x₁ x₂ x₃ x₄ lx p o =
       let end : List ℕ = codes " = $" ++ glyph_of (x / 16) ∷ glyph_of x ∷ 10 ∷ [] in
       let digits : List ℕ = glyph_of (h / 16) ∷ glyph_of h ∷ glyph_of (l / 16) ∷ glyph_of l ∷ end in

@@ -1,10 +1,12 @@
 // The 256 bytes of a page as text: 16 lines with the place, 16 bytes, and what they say in ASCII.
+#![tactic(auto, unfolding(append::specs::Sheet::puts, crate::specs::Page::line_text, crate::specs::Page::page_text), using(append::proofs::Laws::texts))]
+
 ghost use Rattle.std.specs.Prelude.{◌≡◌};
-ghost use Rattle.append.specs.Sheet.{sheet, puts};
+ghost use Rattle.append.specs.Lent.{putting};
 ghost use Rattle.dump.specs.Page.{ascii_of, head_text, signs_text, line_text, page_text};
 
-use append::number::{glyph, hexes};
-use append::{push_byte, put};
+use append::Sheet;
+use append::number::glyph;
 use fields::part::part;
 
 // A printable character as it is, any other byte as a dot.
@@ -19,61 +21,44 @@ fn ascii(x: u8) -> u8
 }
 
 // `7E:1230 `, by the page and the line in it.
-fn head_text(page: u16, line: u8) -> [u8; 8]
-    ensures { result ≡ head_text page line }
+fn head(out: &mut Sheet<'_>, page: u16, line: u8)
+    ensures { out.new ≡ putting out.old (head_text page line) }
 {
-    let bank = (page / 256 % 2) as u8;
-    let low = (page % 256) as u8;
-    [
-        b'7',
-        glyph(bank + 14),
-        b':',
-        glyph(low / 16),
-        glyph(low),
-        glyph(line),
-        b'0',
-        b' ',
-    ]
+    out.push(b'7');
+    out.push(glyph((page / 256 % 2) as u8 + 14));
+    out.push(b':');
+    out.hex_byte((page % 256) as u8);
+    out.push(glyph(line));
+    out.put(b"0 ");
 }
 
 // Bytes as characters.
-pub fn signs(out: &mut [u8], at: usize, s: &[u8]) -> usize
-    ensures { sheet out.new result ≡ puts (sheet out.old at) (signs_text s.now) }
+pub fn signs(out: &mut Sheet<'_>, s: &[u8])
+    ensures { out.new ≡ putting out.old (signs_text s.now) }
 {
-    let mut to = at;
-    let mut i = 0;
-    while i < s.len() {
-        let c = ascii(s[i]);
-        to = push_byte(out, to, c);
-        i += 1;
+    for c in s {
+        out.push(ascii(*c));
     }
-    to
 }
 
 // The line of up to 16 bytes, with a gap behind the eighth.
-fn line(out: &mut [u8], at: usize, page: u16, k: u8, s: &[u8]) -> usize
-    ensures { sheet out.new result ≡ puts (sheet out.old at) (line_text page k s.now) }
+fn line(out: &mut Sheet<'_>, page: u16, k: u8, s: &[u8])
+    ensures { out.new ≡ putting out.old (line_text page k s.now) }
 {
-    let head = head_text(page, k);
-    let a = put(out, at, &head);
-    let b = hexes(out, a, b" ", part(s, 0, 8));
-    let c = put(out, b, b" ");
-    let d = hexes(out, c, b" ", part(s, 8, 8));
-    let e = put(out, d, b"  |");
-    let f = signs(out, e, s);
-    put(out, f, b"|\n")
+    head(out, page, k);
+    out.hexes(b" ", part(s, 0, 8));
+    out.put(b" ");
+    out.hexes(b" ", part(s, 8, 8));
+    out.put(b"  |");
+    signs(out, s);
+    out.put(b"|\n");
 }
 
-// All lines of a page with these bytes; answers the place behind them.
-pub fn dump_page(out: &mut [u8], at: usize, page: u16, s: &[u8]) -> usize
-    ensures { sheet out.new result ≡ puts (sheet out.old at) (page_text page s.now) }
+// All lines of a page with these bytes.
+pub fn dump_page(out: &mut Sheet<'_>, page: u16, s: &[u8])
+    ensures { out.new ≡ putting out.old (page_text page s.now) }
 {
-    let mut to = at;
-    let mut k = 0u8;
-    while k < 16 {
-        let some = part(s, k as usize * 16, 16);
-        to = line(out, to, page, k, some);
-        k += 1;
+    for k in 0..16u8 {
+        line(out, page, k, part(s, k as usize * 16, 16));
     }
-    to
 }

@@ -1,7 +1,5 @@
 // How far a long folder is: a line on the terminal while a file is counted, taken away after it.
-use append::number::decimal;
-use append::put;
-use fields::part::part;
+use append::Sheet;
 use std::fs;
 use std::fs::{File, OpenOptions};
 use std::io::{IsTerminal, Write};
@@ -33,13 +31,16 @@ fn write(to: &mut Option<File>, text: &[u8]) {
 }
 
 pub fn show(to: &mut Option<File>, file: u64, of: u64) {
-    let mut out = [0u8; 80];
-    let a = put(&mut out, 0, b"\rfigures: file ");
-    let b = decimal(&mut out, a, file);
-    let c = put(&mut out, b, b" of ");
-    let d = decimal(&mut out, c, of);
-    let e = put(&mut out, d, b"\x1b[K");
-    write(to, part(&out, 0, e));
+    let mut out = Sheet {
+        text: &mut [0u8; 80],
+        at: 0,
+    };
+    out.put(b"\rfigures: file ");
+    out.decimal(file);
+    out.put(b" of ");
+    out.decimal(of);
+    out.put(b"\x1b[K");
+    write(to, out.written());
 }
 
 pub fn clear(to: &mut Option<File>) {

@@ -1,6 +1,5 @@
 // What is wrong, in one line on standard error. `name` is the program's.
-use append::number::decimal;
-use append::put;
+use append::Sheet;
 use dump::page::signs;
 use fields::part::part;
 use std::io;
@@ -27,20 +26,26 @@ pub fn fail(rt: HostRuntime, what: &[u8], error: io::Error) {
     let mut text = Cursor::new([0u8; 128]);
     let _ = write!(text, "{error}");
     let written = part(text.get_ref(), 0, text.position() as usize);
-    let mut out = [0u8; 132];
-    let a = put(&mut out, 0, b": ");
-    let b = put(&mut out, a, before_number(written));
-    let c = put(&mut out, b, b"\n");
+    let mut out = Sheet {
+        text: &mut [0u8; 132],
+        at: 0,
+    };
+    out.put(b": ");
+    out.put(before_number(written));
+    out.push(b'\n');
     say(rt, what);
-    say(rt, part(&out, 0, c));
+    say(rt, out.written());
 }
 
 // `page: standard input: Is a directory`
 pub fn unread(rt: HostRuntime, name: &[u8], error: io::Error) {
-    let mut out = [0u8; 64];
-    let a = put(&mut out, 0, name);
-    let b = put(&mut out, a, b": standard input");
-    fail(rt, part(&out, 0, b), error);
+    let mut out = Sheet {
+        text: &mut [0u8; 64],
+        at: 0,
+    };
+    out.put(name);
+    out.put(b": standard input");
+    fail(rt, out.written(), error);
 }
 
 // `page: standard output: No space left on device`. A reader that has left wants no more, and nothing is wrong.
@@ -52,57 +57,66 @@ pub fn unwritten(rt: HostRuntime, what: &[u8], error: io::Error) {
 
 // `figures: missing.bench: No such file or directory`
 pub fn unread_file(rt: HostRuntime, name: &[u8], file: &[u8], error: io::Error) {
-    let mut out = [0u8; 4224];
-    let a = put(&mut out, 0, name);
-    let b = put(&mut out, a, b": ");
-    let c = put(&mut out, b, file);
-    fail(rt, part(&out, 0, c), error);
+    let mut out = Sheet {
+        text: &mut [0u8; 4224],
+        at: 0,
+    };
+    out.put(name);
+    out.put(b": ");
+    out.put(file);
+    fail(rt, out.written(), error);
 }
 
-fn whose(out: &mut [u8], name: &[u8], row: usize) -> usize {
-    let a = put(out, 0, name);
+fn whose(out: &mut Sheet<'_>, name: &[u8], row: usize) {
+    out.put(name);
     if row == 0 {
-        return put(out, a, b": standard input");
+        out.put(b": standard input");
+    } else {
+        out.put(b": row ");
+        out.decimal(row as u64);
     }
-    let b = put(out, a, b": row ");
-    decimal(out, b, row as u64)
 }
 
 // `: refusal 8: back with no operation kept`, behind what was refused.
-fn with_refusal(rt: HostRuntime, out: &mut [u8], at: usize, refusal: u8) {
-    let a = put(out, at, b": refusal ");
-    let b = decimal(out, a, refusal as u64);
-    let c = put(out, b, b": ");
-    let d = words(out, c, refusal);
-    let e = put(out, d, b"\n");
-    say(rt, part(out, 0, e));
+fn with_refusal(rt: HostRuntime, out: &mut Sheet<'_>, refusal: u8) {
+    out.put(b": refusal ");
+    out.decimal(refusal as u64);
+    out.put(b": ");
+    words(out, refusal);
+    out.push(b'\n');
+    say(rt, out.written());
 }
 
 // `page: row 3: refusal 8: back with no operation kept`; row 0 is the file itself.
 pub fn refused(rt: HostRuntime, name: &[u8], row: usize, refusal: u8) {
-    let mut out = [0u8; 128];
-    let a = whose(&mut out, name, row);
-    with_refusal(rt, &mut out, a, refusal);
+    let mut out = Sheet {
+        text: &mut [0u8; 128],
+        at: 0,
+    };
+    whose(&mut out, name, row);
+    with_refusal(rt, &mut out, refusal);
 }
 
 // `figures: file 257: refusal 14: more than 256 files`
 pub fn file_refused(rt: HostRuntime, name: &[u8], file: u64, refusal: u8) {
-    let mut out = [0u8; 128];
-    let a = put(&mut out, 0, name);
-    let b = put(&mut out, a, b": file ");
-    let c = decimal(&mut out, b, file);
-    with_refusal(rt, &mut out, c, refusal);
+    let mut out = Sheet {
+        text: &mut [0u8; 128],
+        at: 0,
+    };
+    out.put(name);
+    out.put(b": file ");
+    out.decimal(file);
+    with_refusal(rt, &mut out, refusal);
 }
 
 pub fn no_place(rt: HostRuntime, name: &[u8], word: &[u8]) {
-    let mut out = [0u8; 192];
-    let a = put(&mut out, 0, name);
-    let b = put(&mut out, a, b": `");
-    let c = signs(&mut out, b, word);
-    let d = put(
-        &mut out,
-        c,
-        b"`: expected a place from $7E:0000 to $7F:FFFF\n",
-    );
-    say(rt, part(&out, 0, d));
+    let mut out = Sheet {
+        text: &mut [0u8; 192],
+        at: 0,
+    };
+    out.put(name);
+    out.put(b": `");
+    signs(&mut out, word);
+    out.put(b"`: expected a place from $7E:0000 to $7F:FFFF\n");
+    say(rt, out.written());
 }

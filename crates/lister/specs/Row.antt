@@ -6,17 +6,17 @@ use Rattle.fields.specs.{Bytes.byte_at, Little.field}
 use Rattle.append.specs.{Number.hex_byte, Number.decimal, Texts.codes}
 
 -- `read $00:4302`
-abbrev pub read_text : ℕ → ℕ → ℕ → List ℕ
+unfoldable pub read_text : ℕ → ℕ → ℕ → List ℕ
 read_text bank low high =
     codes "read $" ++ hex_byte bank ++ codes ":" ++ hex_byte high ++ hex_byte low ++ codes "\n"
 
 -- `write $00:4302 = $10`
-abbrev pub write_text : ℕ → ℕ → ℕ → ℕ → List ℕ
+unfoldable pub write_text : ℕ → ℕ → ℕ → ℕ → List ℕ
 write_text bank low high byte =
     codes "write $" ++ hex_byte bank ++ codes ":" ++ hex_byte high ++ hex_byte low ++ codes " = $" ++ hex_byte byte ++ codes "\n"
 
 -- `answer $2134 = $5A`
-abbrev pub answer_text : ℕ → ℕ → ℕ → List ℕ
+unfoldable pub answer_text : ℕ → ℕ → ℕ → List ℕ
 answer_text low high byte =
     codes "answer $" ++ hex_byte high ++ hex_byte low ++ codes " = $" ++ hex_byte byte ++ codes "\n"
 

@@ -1,83 +1,55 @@
 // The lines of a cycle: its accesses in order, then the NMI edge.
+#![tactic(auto, unfolding(append::specs::Sheet::puts, crate::specs::Cycle::log_text, crate::specs::Cycle::edge_text, crate::specs::Cycle::cycle_text), using(append::proofs::Laws::texts))]
+
 ghost use Rattle.std.specs.Prelude.{min, ◌≡◌};
-ghost use Rattle.append.specs.Sheet.{sheet, puts};
+ghost use Rattle.append.specs.Lent.{putting};
 ghost use Rattle.listing.specs.Cycle.{log_text, edge_text, cycle_text};
 
 use crate::line::{Line, head, put_access};
-use append::put;
+use append::Sheet;
 use bus::access::Log;
 use registers::wm_address::WmAddress;
 use state::Machine;
 use touch::reach::reached;
 use touch::who::{starts_at_zero, who_of};
 
-// A log holds at most eleven.
-fn made(count: u8) -> usize
-    ensures { result ≡ min count 11 }
+// The accesses in order, at most eleven. WMADD goes along with them.
+#[tactic(auto, unfolding(append::specs::Sheet::puts, crate::specs::Cycle::log_text), using(crate::proofs::Loop::accesses_next, crate::proofs::Loop::accesses_none))]
+fn put_log(out: &mut Sheet<'_>, l: Line, w: WmAddress, zero: bool, log: Log)
+    ensures { out.new ≡ putting out.old (log_text l w zero log) }
 {
-    if count < 11 { count as usize } else { 11 }
-}
-
-// The accesses in order. WMADD goes along with them.
-fn put_log(out: &mut [u8], at: usize, l: Line, w: WmAddress, zero: bool, log: Log) -> usize
-    ensures { sheet out.new result ≡ puts (sheet out.old at) (log_text l w zero log) }
-{
-    let items = log.items;
-    let who = l.who;
-    let n = made(log.count);
-    let mut to = at;
+    let n = log.count.min(11) as usize;
     let mut wm = w;
     let mut first = zero;
-    let mut i: usize = 0;
-    while i < n {
-        let a = items[i];
-        let r = reached(who, wm, a);
-        let after = r.after;
-        to = put_access(out, to, l, a, r, first);
-        wm = after;
+    for i in 0..n {
+        let a = log.items[i];
+        let r = reached(l.who, wm, a);
+        put_access(out, l, a, r, first);
+        wm = r.after;
         first = false;
-        i += 1;
     }
-    to
 }
 
-fn put_edge(out: &mut [u8], at: usize, row: u64, clock: u64, only: u32, edge: bool) -> usize
-    ensures { sheet out.new result ≡ puts (sheet out.old at) (edge_text row clock only edge) }
+fn put_edge(out: &mut Sheet<'_>, row: u64, clock: u64, only: u32, edge: bool)
+    ensures { out.new ≡ putting out.old (edge_text row clock only edge) }
 {
-    if !edge {
-        return at;
+    if edge && only == 131072 {
+        head(out, row, clock);
+        out.put(b"NMI     edge\n");
     }
-    if only != 131072 {
-        return at;
-    }
-    let a = head(out, at, row, clock);
-    put(out, a, b"NMI     edge\n")
 }
 
 // `before` is the machine before the cycle: it names who has the bus, and where WMADD stands.
-pub fn put_cycle(
-    out: &mut [u8],
-    at: usize,
-    row: u64,
-    only: u32,
-    before: Machine,
-    log: Log,
-    edge: bool,
-) -> usize
-    ensures { sheet out.new result ≡ puts (sheet out.old at) (cycle_text row only before log edge) }
+pub fn put_cycle(out: &mut Sheet<'_>, row: u64, only: u32, before: Machine, log: Log, edge: bool)
+    ensures { out.new ≡ putting out.old (cycle_text row only before log edge) }
 {
-    let io = before.io;
-    let dma = before.dma;
-    let w = io.wmadd;
     let clock = before.board.clock;
-    let who = who_of(dma);
-    let zero = starts_at_zero(before);
     let l = Line {
-        row: row,
-        clock: clock,
-        only: only,
-        who: who,
+        row,
+        clock,
+        only,
+        who: who_of(before.dma),
     };
-    let a = put_log(out, at, l, w, zero, log);
-    put_edge(out, a, row, clock, only, edge)
+    put_log(out, l, before.io.wmadd, starts_at_zero(before), log);
+    put_edge(out, row, clock, only, edge);
 }

@@ -1,10 +1,12 @@
 // The line of one access.
+#![tactic(auto, unfolding(append::specs::Sheet::puts, crate::specs::Line::head_text, crate::specs::Line::access_text), using(append::proofs::Laws::texts))]
+
 ghost use Rattle.std.specs.Prelude.{◌≡◌};
-ghost use Rattle.append.specs.Sheet.{sheet, puts};
+ghost use Rattle.append.specs.Lent.{putting};
 ghost use Rattle.listing.specs.Line.{head_text, who_text, verb_text, address_text, place_text, spot_text, own_text, zero_text, shows, access_text};
 
-use append::number::{glyph, padded};
-use append::put;
+use append::Sheet;
+use append::number::glyph;
 use bus::access::Access;
 use touch::reach::Reach;
 use touch::who::Who;
@@ -19,129 +21,121 @@ pub struct Line {
 }
 
 // The row and the clock, each in its column.
-pub fn head(out: &mut [u8], at: usize, row: u64, clock: u64) -> usize
-    ensures { sheet out.new result ≡ puts (sheet out.old at) (head_text row clock) }
+pub fn head(out: &mut Sheet<'_>, row: u64, clock: u64)
+    ensures { out.new ≡ putting out.old (head_text row clock) }
 {
-    let a = padded(out, at, row, 5);
-    let b = put(out, a, b" ");
-    let c = padded(out, b, clock, 10);
-    put(out, c, b"  ")
+    out.padded(row, 5);
+    out.push(b' ');
+    out.padded(clock, 10);
+    out.put(b"  ");
 }
 
 // `HDMA 3  `
-fn who_text(who: Who) -> [u8; 8]
-    ensures { result ≡ who_text who }
+fn put_who(out: &mut Sheet<'_>, who: Who)
+    ensures { out.new ≡ putting out.old (who_text who) }
 {
     match who {
-        Who::Cpu => [b'C', b'P', b'U', b' ', b' ', b' ', b' ', b' '],
-        Who::Dma { channel } => [b'D', b'M', b'A', b' ', glyph(channel), b' ', b' ', b' '],
-        Who::Hdma { channel } => [b'H', b'D', b'M', b'A', b' ', glyph(channel), b' ', b' '],
+        Who::Cpu => out.put(b"CPU     "),
+        Who::Dma { channel } => out.put(&[
+            b'D',
+            b'M',
+            b'A',
+            b' ',
+            glyph(channel),
+            b' ',
+            b' ',
+            b' ',
+        ]),
+        Who::Hdma { channel } => out.put(&[
+            b'H',
+            b'D',
+            b'M',
+            b'A',
+            b' ',
+            glyph(channel),
+            b' ',
+            b' ',
+        ]),
     }
 }
 
-fn verb_text(write: bool) -> [u8; 6]
-    ensures { result ≡ verb_text write }
+fn put_verb(out: &mut Sheet<'_>, write: bool)
+    ensures { out.new ≡ putting out.old (verb_text write) }
 {
-    if write {
-        return [b'w', b'r', b'i', b't', b'e', b' '];
-    }
-    [b'r', b'e', b'a', b'd', b' ', b' ']
+    out.put(if write { b"write " } else { b"read  " });
 }
 
 // `$00:4302 = $10`
-fn address_text(a: Access) -> [u8; 14]
-    ensures { result ≡ address_text a }
+fn put_address(out: &mut Sheet<'_>, a: Access)
+    ensures { out.new ≡ putting out.old (address_text a) }
 {
-    let high = (a.addr / 256) as u8;
-    let low = (a.addr % 256) as u8;
-    [
-        b'$',
-        glyph(a.bank / 16),
-        glyph(a.bank),
-        b':',
-        glyph(high / 16),
-        glyph(high),
-        glyph(low / 16),
-        glyph(low),
-        b' ',
-        b'=',
-        b' ',
-        b'$',
-        glyph(a.byte / 16),
-        glyph(a.byte),
-    ]
+    out.push(b'$');
+    out.hex_byte(a.bank);
+    out.push(b':');
+    out.hex_word(a.addr);
+    out.put(b" = $");
+    out.hex_byte(a.byte);
 }
 
 // `  at $7E:1234`
-fn place_text(spot: u32) -> [u8; 13]
-    ensures { result ≡ place_text spot }
+fn put_place(out: &mut Sheet<'_>, spot: u32)
+    ensures { out.new ≡ putting out.old (place_text spot) }
 {
-    let bank = (spot / 65536 % 2) as u8;
-    let high = (spot / 256 % 256) as u8;
-    let low = (spot % 256) as u8;
-    [
-        b' ',
-        b' ',
-        b'a',
-        b't',
-        b' ',
-        b'$',
-        b'7',
-        glyph(bank + 14),
-        b':',
-        glyph(high / 16),
-        glyph(high),
-        glyph(low / 16),
-        glyph(low),
-    ]
+    out.put(b"  at $7");
+    out.push(glyph((spot / 65536 % 2) as u8 + 14));
+    out.push(b':');
+    out.hex_byte((spot / 256 % 256) as u8);
+    out.hex_byte((spot % 256) as u8);
 }
 
 // The byte of work RAM, where there is one.
-fn put_spot(out: &mut [u8], at: usize, spot: u32) -> usize
-    ensures { sheet out.new result ≡ puts (sheet out.old at) (spot_text spot) }
+#[tactic(auto, using(append::proofs::Laws::puts_none))]
+fn put_spot(out: &mut Sheet<'_>, spot: u32)
+    ensures { out.new ≡ putting out.old (spot_text spot) }
 {
     if spot < 131072 {
-        let t = place_text(spot);
-        return put(out, at, &t);
+        put_place(out, spot);
     }
-    at
 }
 
-fn put_own(out: &mut [u8], at: usize, own: bool) -> usize
-    ensures { sheet out.new result ≡ puts (sheet out.old at) (own_text own) }
+#[tactic(auto, using(append::proofs::Laws::puts_none))]
+fn put_own(out: &mut Sheet<'_>, own: bool)
+    ensures { out.new ≡ putting out.old (own_text own) }
 {
     if own {
-        return put(out, at, b"  ! rewrites its own channel");
+        out.put(b"  ! rewrites its own channel");
     }
-    at
 }
 
-fn put_zero(out: &mut [u8], at: usize, zero: bool) -> usize
-    ensures { sheet out.new result ≡ puts (sheet out.old at) (zero_text zero) }
+#[tactic(auto, using(append::proofs::Laws::puts_none))]
+fn put_zero(out: &mut Sheet<'_>, zero: bool)
+    ensures { out.new ≡ putting out.old (zero_text zero) }
 {
     if zero {
-        return put(out, at, b"  ! byte count 0: 65536 bytes");
+        out.put(b"  ! byte count 0: 65536 bytes");
     }
-    at
+}
+
+// Whether an access of a spot is listed: every one, or those of the one byte that is looked at.
+#[tactic(auto)]
+fn shows(only: u32, spot: u32) -> bool
+    ensures { result ≡ shows only spot }
+{
+    only == 131072 || only == spot
 }
 
 // The whole line, unless another byte of work RAM is looked at. `zero` marks the start of a transfer with byte count 0.
-pub fn put_access(out: &mut [u8], at: usize, l: Line, a: Access, r: Reach, zero: bool) -> usize
-    ensures { sheet out.new result ≡ puts (sheet out.old at) (access_text l a r zero) }
+pub fn put_access(out: &mut Sheet<'_>, l: Line, a: Access, r: Reach, zero: bool)
+    ensures { out.new ≡ putting out.old (access_text l a r zero) }
 {
-    if !((l.only == 131072) | (l.only == r.spot)) {
-        return at;
+    if shows(l.only, r.spot) {
+        head(out, l.row, l.clock);
+        put_who(out, l.who);
+        put_verb(out, a.write);
+        put_address(out, a);
+        put_spot(out, r.spot);
+        put_own(out, r.own);
+        put_zero(out, zero);
+        out.push(b'\n');
     }
-    let maker = l.who;
-    let who = who_text(maker);
-    let verb = verb_text(a.write);
-    let address = address_text(a);
-    let b = head(out, at, l.row, l.clock);
-    let c = put(out, b, &who);
-    let d = put(out, c, &verb);
-    let e = put(out, d, &address);
-    let f = put_spot(out, e, r.spot);
-    let g = put_own(out, f, r.own);
-    let h = put_zero(out, g, zero);
-    put(out, h, b"\n")
 }

@@ -1,6 +1,7 @@
 // Writes the page of work RAM that holds a place, after the bench file on standard input.
 #![tactic(auto)]
 
+use append::Sheet;
 use bench::page::page_look;
 use dump::page::dump_page;
 use fields::part::part;
@@ -12,9 +13,12 @@ use start::begin;
 
 // 16 lines of 78 bytes.
 fn write_page<'a>(rt: HostRuntime, low: &'a [u8], high: &'a [u8], page: u16) {
-    let mut out = [0u8; 1248];
-    let n = dump_page(&mut out, 0, page, page_look(low, high, page));
-    if let Err(error) = rt.write_all(part(&out, 0, n)) {
+    let mut out = Sheet {
+        text: &mut [0u8; 1248],
+        at: 0,
+    };
+    dump_page(&mut out, page, page_look(low, high, page));
+    if let Err(error) = rt.write_all(out.written()) {
         unwritten(rt, b"page: standard output", error);
     }
 }

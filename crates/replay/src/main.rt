@@ -1,13 +1,12 @@
 // Replays the list of bench files on standard input: each stands behind its length in 4 bytes, and gets a line `file N` before its own.
 #![tactic(auto)]
 
-use append::number::decimal;
-use append::{push_byte, put};
+use append::Sheet;
 use fields::part::part;
 use fields::word::four;
 use input::complaint::{fail, say, unwritten};
 use input::read_all;
-use printout::output::{write_text, write_trace};
+use printout::output::write_trace;
 use std::io;
 
 fn cut_short(rt: HostRuntime) -> bool {
@@ -32,11 +31,14 @@ fn read_file(rt: HostRuntime, file: &mut [u8], size: usize) -> bool {
 }
 
 fn write_file(rt: HostRuntime, number: u64, file: &[u8]) -> io::Result<()> {
-    let mut head = [0u8; 32];
-    let word = put(&mut head, 0, b"file ");
-    let digits = decimal(&mut head, word, number);
-    let end = push_byte(&mut head, digits, b'\n');
-    write_text(&rt, &head, end)?;
+    let mut head = Sheet {
+        text: &mut [0u8; 32],
+        at: 0,
+    };
+    head.put(b"file ");
+    head.decimal(number);
+    head.push(b'\n');
+    rt.write_all(head.written())?;
     write_trace(&rt, file)
 }
 

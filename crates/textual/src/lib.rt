@@ -5,6 +5,7 @@ pub mod mark;
 pub mod message;
 pub mod name;
 
+use append::Sheet;
 use assembler::assemble::assemble_text;
 use benchfile::check::file_check;
 use fields::part::part;
@@ -83,9 +84,12 @@ fn listed(rt: HostRuntime, file: &[u8]) {
         say(rt, b"list: standard input is no bench file\n");
         return;
     }
-    let mut out = [0u8; 327680];
-    let n = list_file(&mut out, file);
-    if let Err(error) = rt.write_all(part(&out, 0, n)) {
+    let mut out = Sheet {
+        text: &mut [0u8; 327680],
+        at: 0,
+    };
+    list_file(&mut out, file);
+    if let Err(error) = rt.write_all(out.written()) {
         unwritten(rt, b"list: standard output", error);
     }
 }

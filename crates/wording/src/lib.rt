@@ -4,34 +4,30 @@
 pub mod line;
 
 ghost use Rattle.std.specs.Prelude.{◌≡◌};
-ghost use Rattle.append.specs.Sheet.{sheet, puts};
+ghost use Rattle.append.specs.Lent.{putting};
 ghost use Rattle.wording.specs.Words.{words_of};
 
-use append::put;
+use append::Sheet;
 
 // Document 01's table, in its order; 13 and 14 are document 02's.
 #[tactic(auto, unfolding(crate::specs::Words::words_of))]
-pub fn words(out: &mut [u8], at: usize, number: u8) -> usize
-    ensures { sheet out.new result ≡ puts (sheet out.old at) (words_of number) }
+pub fn words(out: &mut Sheet<'_>, number: u8)
+    ensures { out.new ≡ putting out.old (words_of number) }
 {
     match number {
-        1 => put(out, at, b"a work RAM slice is not 65536 bytes"),
-        2 => put(out, at, b"the record's length is wrong"),
-        3 => put(out, at, b"the ROM is too long"),
-        4 => put(out, at, b"the machine breaks its ranges"),
-        5 => put(out, at, b"event over 4"),
-        6 => put(
-            out,
-            at,
-            b"port over 1, or answer outside $2134-$213F and $2140-$2143",
-        ),
-        7 => put(out, at, b"the clock is at its end"),
-        8 => put(out, at, b"back with no operation kept"),
-        9 => put(out, at, b"the newest entry breaks its ranges"),
-        10 => put(out, at, b"bit cycles outside 1 to 4096"),
-        11 => put(out, at, b"no bench file"),
-        13 => put(out, at, b"a total would pass 2^64 - 1"),
-        14 => put(out, at, b"more than 256 files"),
-        _ => put(out, at, b"page over 511"),
+        1 => out.put(b"a work RAM slice is not 65536 bytes"),
+        2 => out.put(b"the record's length is wrong"),
+        3 => out.put(b"the ROM is too long"),
+        4 => out.put(b"the machine breaks its ranges"),
+        5 => out.put(b"event over 4"),
+        6 => out.put(b"port over 1, or answer outside $2134-$213F and $2140-$2143"),
+        7 => out.put(b"the clock is at its end"),
+        8 => out.put(b"back with no operation kept"),
+        9 => out.put(b"the newest entry breaks its ranges"),
+        10 => out.put(b"bit cycles outside 1 to 4096"),
+        11 => out.put(b"no bench file"),
+        13 => out.put(b"a total would pass 2^64 - 1"),
+        14 => out.put(b"more than 256 files"),
+        _ => out.put(b"page over 511"),
     }
 }

@@ -1,11 +1,14 @@
-use Rattle.listing.proofs.{Join.held_none, Join.held-joined}
-use borrow.Author.Tests.{eq-eqb, ne_eqb}
+use Rattle.std.proofs.Common.{eq-eqb}
+use Rattle.append.proofs.Laws.{put_then}
+use Rattle.listing.specs.Event.{held_text}
 use Rattle.listing.proofs.event.put_held.Goals as goal
 
-pub returns-then-only-ne131072 : goal.returns-then-only-ne131072
-returns-then-only-ne131072 c = held_none _ _ _ _ _ _ (ne_eqb _ _ c.if-only-ne131072.true)
-
-pub returns : goal.returns
-returns c =
-    held-joined _ _ _ _ _ _ (eq-eqb _ _ c.if-only-ne131072.false) c.head-a.ensures c.put-b.ensures
-    c.decimal-c.ensures c.put-d.ensures c.decimal-e.ensures c.put.ensures
+pub returns-then-only-eq131072 : goal.returns-then-only-eq131072
+unfolding held_text
+returns-then-only-eq131072 c =
+    rw (eq-eqb _ _ c.if-only-eq131072.true)
+    (put_then _ _ _ c.head.ensures
+    (put_then _ _ _ c.put.ensures
+    (put_then _ _ _ c.decimal.ensures
+    (put_then _ _ _ c.put-then-only-eq131072.ensures
+    (put_then _ _ _ c.decimal-then-only-eq131072.ensures c.put-then-only-eq131072-2.ensures)))))

@@ -4,7 +4,7 @@ ghost use Rattle.moves.specs.Steps.{running, listed, stepped, steps};
 
 use crate::lines::put_step;
 use crate::origin::{note, origin_at, origin_of};
-use append::has_room;
+use append::{Sheet, has_room};
 use ring::Bench;
 use walk::stand::Stand;
 use walk::step::next_call;
@@ -19,6 +19,7 @@ pub struct Run {
 }
 
 // The next call, of the row of that number. A back step leaves the slot of the operation that it took back as the next one.
+#[tactic(auto, unfolding(crate::specs::Steps::listed))]
 fn list_call(
     w: Run,
     low: &mut [u8],
@@ -47,14 +48,18 @@ fn list_call(
     note(origins, b.slot, here, (answer.number == 0) & !answer.back);
     let origin = origin_at(origins, after.slot);
     let clock = after.machine.board.clock;
-    let used = put_step(
-        out, w.used, row as u64, only, before, says, answer, with, clock, origin,
+    let mut text = Sheet {
+        text: out,
+        at: w.used,
+    };
+    put_step(
+        &mut text, row as u64, only, before, says, answer, with, clock, origin,
     );
     Run {
         bench: after,
         stand: next,
         number: answer.number,
-        used: used,
+        used: text.at,
     }
 }
 

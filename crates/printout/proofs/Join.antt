@@ -17,25 +17,6 @@ use Rattle.printout.specs.Row.{Shown, shown_text, row_shown}
 use Rattle.printout.specs.Rows.{Standing, after, stepped}
 use Rattle.printout.specs.declared.{row.Show.Show, row.Show.TheVariants.Nothing, row.Show.TheVariants.Line, row.Show.TheVariants.Sum}
 
--- what is shown of a row
-module _ (s : Sheet) {show : Show} (row kind number a b sum : ℕ) where
-  pub shown-none : show ≡ Nothing → s ≡ puts s (shown_text show row kind number a b sum)
-  unfolding shown_text
-  shown-none p = cc (puts_none s)
-
-  pub shown-line : {t : Sheet} → show ≡ Line → t ≡ puts s (line_text row kind number a b) → t ≡ puts s (shown_text show row kind number a b sum)
-  unfolding shown_text
-  shown-line p q = cc
-
-  pub shown-sum : {t : Sheet} → show ≡ Sum → t ≡ puts s (sum_text row sum) → t ≡ puts s (shown_text show row kind number a b sum)
-  unfolding shown_text
-  shown-sum p q = cc
-
-pub row-joined : (rom row : List ℕ) (number : ℕ) (show : Show) (d : Desk) (t : Sheet) {says : Row} {kind : ℕ} {r : Running} {u : Sheet} → says ≡ row_of row → kind ≡ byte_at row 0
-    → r ≡ row_run rom says d → u ≡ puts t (shown_text show number kind r.number r.a r.b r.desk.bench.sum) → ◌≡◌ {A = Shown} (record { ran = r; out = u }) (row_shown rom row number show d t)
-unfolding row_shown
-row-joined rom row number show d t p q e f = cc
-
 module _ (rom script : List ℕ) (show : Show) (s : Standing) where
   pub step-none : leb (length script / 8) s.next ≡ true → s ≡ stepped rom script show s
   unfolding stepped

@@ -1,9 +1,11 @@
 // A script row run on a bench, with what is shown of it.
 ghost use Rattle.std.specs.Prelude.{◌≡◌};
 ghost use Rattle.bench.specs.Calls.{desk};
-ghost use Rattle.append.specs.Sheet.{sheet, puts};
+ghost use Rattle.append.specs.Sheet.{sheet};
+ghost use Rattle.append.specs.Lent.{putting};
 ghost use Rattle.printout.specs.Row.{shown_text, shown, row_shown};
 
+use append::Sheet;
 use benchfile::row::row_of;
 use fields::word::byte;
 use ring::Bench;
@@ -26,9 +28,9 @@ pub struct Lined {
     pub used: usize,
 }
 
+#[tactic(auto, unfolding(crate::specs::Row::shown_text), using(append::proofs::Laws::puts_none))]
 fn put_shown(
-    out: &mut [u8],
-    used: usize,
+    out: &mut Sheet<'_>,
     show: Show,
     row: u64,
     kind: u8,
@@ -36,17 +38,18 @@ fn put_shown(
     a: u32,
     b: u32,
     sum: u32,
-) -> usize
-    ensures { sheet out.new result ≡ puts (sheet out.old used) (shown_text show row kind number a b sum) }
+)
+    ensures { out.new ≡ putting out.old (shown_text show row kind number a b sum) }
 {
     match show {
-        Show::Nothing => used,
-        Show::Line => append_line(out, used, row, kind, number, a, b),
-        Show::Sum => append_sum(out, used, row, sum),
+        Show::Nothing => (),
+        Show::Line => append_line(out, row, kind, number, a, b),
+        Show::Sum => append_sum(out, row, sum),
     }
 }
 
 // Runs the row of these 8 bytes, the `number`th of its script.
+#[tactic(auto, unfolding(crate::specs::Row::row_shown))]
 pub fn run_line(
     b: Bench,
     low: &mut [u8],
@@ -65,6 +68,13 @@ pub fn run_line(
     let kind = byte(row, 0);
     let r = run_row(b, low, high, entries, rom, says);
     let after = r.bench;
-    let end = put_shown(out, used, show, number, kind, r.number, r.a, r.b, after.sum);
-    Lined { ran: r, used: end }
+    let mut text = Sheet {
+        text: out,
+        at: used,
+    };
+    put_shown(&mut text, show, number, kind, r.number, r.a, r.b, after.sum);
+    Lined {
+        ran: r,
+        used: text.at,
+    }
 }

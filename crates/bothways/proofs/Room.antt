@@ -13,7 +13,7 @@ use Rattle.benchfile.specs.Row.{row_bytes}
 use Rattle.fields.proofs.Parts.{part_bytes}
 use Rattle.append.proofs.Decimal.{short}
 use Rattle.lister.specs.Body.{bytes_text, line_text, lines_from, lines_text}
-use Rattle.lister.specs.Row.{event_text, flags_text, cycles_text, pad_text, plug_text, back_text, texts, row_text}
+use Rattle.lister.specs.Row.{event_text, flags_text, cycles_text, pad_text, plug_text, back_text, read_text, write_text, answer_text, texts, row_text}
 use Rattle.lister.specs.List.{rows_text, script_text, settings_text}
 
 abbrev Short : ℕ → List ℕ → Type 0
@@ -53,7 +53,7 @@ unfolding back_text
 back-short n h = simp length-append (omega (arith, decimal-short n h))
 
 row-short : (b : List ℕ) → Bytes b → Short 36 (row_text b)
-unfolding row_text
+unfolding row_text read_text write_text answer_text
 row-short b h =
     let h₁ = byte_fits b 1 h in
     let h₂ = byte_fits b 2 h in

@@ -104,6 +104,7 @@ module _ (b l h : ℕ) (lb : b < 256) (ll : l < 256) (lh : h < 256) where
   -- a read row comes back
   pub read_back : (k x₁ x₂ x₃ x₄ : ℕ) → (p : ℕ) → Open p
       → quietly (before p k x₁ x₂ x₃ x₄ 0) (read_text b l h) ≡ before 4 2 b l h 0 3
+  unfolding read_text
   read_back k x₁ x₂ x₃ x₄ p o =
       let rest : List ℕ = 36 ∷ glyph_of (b / 16) ∷ glyph_of b ∷ 58 ∷ glyph_of (h / 16) ∷ glyph_of h ∷ glyph_of (l / 16) ∷ glyph_of l ∷ 10 ∷ [] in
       row_word k x₁ x₂ x₃ x₄ rest p o read-row
@@ -133,6 +134,7 @@ module _ (b l h : ℕ) (lb : b < 256) (ll : l < 256) (lh : h < 256) where
   -- a write row comes back
   pub write-back : (x k x₁ x₂ x₃ x₄ : ℕ) → x < 256 → (p : ℕ) → Open p
       → quietly (before p k x₁ x₂ x₃ x₄ 0) (write_text b l h x) ≡ before 4 3 b l h x 3
+  unfolding write_text
   write-back x k x₁ x₂ x₃ x₄ lx p o =
       let end : List ℕ = codes " = $" ++ glyph_of (x / 16) ∷ glyph_of x ∷ 10 ∷ [] in
       let rest : List ℕ = 36 ∷ glyph_of (b / 16) ∷ glyph_of b ∷ 58 ∷ glyph_of (h / 16) ∷ glyph_of h ∷ glyph_of (l / 16) ∷ glyph_of l ∷ end in
@@ -161,6 +163,7 @@ module _ (b l h : ℕ) (lb : b < 256) (ll : l < 256) (lh : h < 256) where
   -- an answer row comes back
   pub answer_back : (x k x₁ x₂ x₃ x₄ : ℕ) → x < 256 → (p : ℕ) → Open p
       → quietly (before p k x₁ x₂ x₃ x₄ 0) (answer_text l h x) ≡ before 4 6 0 l h x 3
+  unfolding answer_text
   answer_back x k x₁ x₂ x₃ x₄ lx p o =
       let end : List ℕ = codes " = $" ++ glyph_of (x / 16) ∷ glyph_of x ∷ 10 ∷ [] in
       let digits : List ℕ = glyph_of (h / 16) ∷ glyph_of h ∷ glyph_of (l / 16) ∷ glyph_of l ∷ end in

@@ -1,4 +1,4 @@
--- The calls of a step and of its lines, joined into their definitions.
+-- A step, joined into its definition.
 use Prim.Native.Nat.{ℕ, ◌+◌, ◌/◌, ◌%◌}
 use mathlib.Core.Bool.{Bool, true, false, ◌&&◌, not}
 use mathlib.Core.List.{List, [], ◌∷◌}
@@ -22,75 +22,7 @@ use Rattle.moves.specs.Origin.{origin_of, noted}
 use Rattle.moves.specs.Steps.{Running, listed, stepped}
 use Rattle.moves.specs.Text.{access, cpu_text, returned_text, step_text}
 
--- the access of a row, or its refusal
-module _ (s : Sheet) (row only : ℕ) (m : Machine) (a : Access) (number : ℕ) where
-  pub cpu-refused : {t : Sheet} → eqb number 0 ≡ false → t ≡ puts s (refused_text row m.board.clock number) → t ≡ puts s (cpu_text row only m a number)
-  unfolding cpu_text
-  cpu-refused h p = rw h p
-
-  pub cpu-done : {t : Sheet} {r : Reach} → eqb number 0 ≡ true → r ≡ reach_of Cpu m.io.wmadd a
-      → t ≡ puts s (access_text (record { row = row; clock = m.board.clock; only = only; who = Cpu }) a r false) → t ≡ puts s (cpu_text row only m a number)
-  unfolding cpu_text
-  cpu-done h p q = cc
-
--- back steps
-module _ (s : Sheet) (row clock number done count origin : ℕ) where
-  pub back-goes : (eqb number 0 && ltb done count) ≡ true → s ≡ puts s (returned_text row clock number done count origin)
-  unfolding returned_text
-  back-goes h = rw h (sym (puts_none s))
-
-  pub back-ends : {t u : Sheet} → (eqb number 0 && ltb done count) ≡ false → t ≡ puts s (back_text row clock done count origin) → u ≡ puts t (refused_text row clock number)
-      → u ≡ puts s (returned_text row clock number done count origin)
-  unfolding returned_text
-  back-ends h p q = rw h (then s _ _ p q)
-
--- every variant without lines of its own, by its place in the enum
-abbrev pub others : List ℕ
-others = 3 ∷ 4 ∷ 5 ∷ 7 ∷ []
-
-module _ (s : Sheet) (row only : ℕ) (m : Machine) (o : Answer) (x : Stand) (clock origin : ℕ) where
-  pub lines-cycle : {t u : Sheet} {says : Row} {count event : ℕ} {due timer : Bool} → says ≡ Cycles count event due timer
-      → t ≡ puts s (cycle_text row only m o.log o.edge) → u ≡ puts t (end_text row clock only o.number x.held x.done count)
-      → u ≡ puts s (step_text row only m says o x clock origin)
-  unfolding step_text
-  lines-cycle e p q = let j = then s _ _ p q in cc
-
-  pub lines-read : {t : Sheet} {says : Row} {bank addr : ℕ} → says ≡ Read bank addr → t ≡ puts s (cpu_text row only m (access false bank addr (o.byte % 256)) o.number)
-      → t ≡ puts s (step_text row only m says o x clock origin)
-  unfolding step_text
-  lines-read e p = cc
-
-  pub lines_write : {t : Sheet} {says : Row} {bank addr byte : ℕ} → says ≡ Write bank addr byte → t ≡ puts s (cpu_text row only m (access true bank addr byte) o.number)
-      → t ≡ puts s (step_text row only m says o x clock origin)
-  unfolding step_text
-  lines_write e p = cc
-
-  pub lines-back : {t : Sheet} {says : Row} {count : ℕ} → says ≡ Back count → t ≡ puts s (returned_text row clock o.number x.done count origin)
-      → t ≡ puts s (step_text row only m says o x clock origin)
-  unfolding step_text
-  lines-back e p = cc
-
-  pub lines_other : {t : Sheet} (says : Row) → OneOf others (tag_of the_type says) → t ≡ puts s (refused_text row clock o.number) → t ≡ puts s (step_text row only m says o x clock origin)
-  unfolding step_text
-  lines_other (Cycles count event due timer) h p = absurd (miss others 0 tt h)
-  lines_other (Read bank addr) h p = absurd (miss others 1 tt h)
-  lines_other (Write bank addr byte) h p = absurd (miss others 2 tt h)
-  lines_other (Pad port word) h p = p
-  lines_other (Plug port on) h p = p
-  lines_other (Reply addr byte) h p = p
-  lines_other (Back count) h p = absurd (miss others 6 tt h)
-  lines_other Broken h p = p
-
--- a call with its lines
-pub list-joined : (rom script : List ℕ) (only row : ℕ) (w : Running) {s : Stepping} {here origin : ℕ} {origins : List ℕ} {u : Sheet} → s ≡ step_of rom script w.stand w.desk
-    → here ≡ origin_of row w.stand.done
-    → origins ≡ noted w.origins w.desk.bench.slot here (eqb s.made.answer.number 0 && not s.made.answer.back)
-    → origin ≡ get_or origins s.made.desk.bench.slot 0
-    → u ≡ puts w.sheet (step_text row only w.desk.bench.machine s.says s.made.answer s.stand s.made.desk.bench.machine.board.clock origin)
-    → ◌≡◌ {A = Running} (record { desk = s.made.desk; origins = origins; stand = s.next; number = s.made.answer.number; sheet = u }) (listed rom script only row w)
-unfolding listed
-list-joined rom script only row w a b c d e = cc
-
+-- one step more, unless there is none, a call was refused, or its lines might have no room
 module _ (rom script : List ℕ) (only : ℕ) (w : Running) where
   pub step-none : leb (length script / 8) w.stand.next ≡ true → w ≡ stepped rom script only w
   unfolding stepped

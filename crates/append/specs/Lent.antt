@@ -1,21 +1,21 @@
-use Rattle.std.specs.Prelude.{ℕ, ◌+◌, length, set, take, ltb}
-use mathlib.Core.List.{List, foldl}
-use Rattle.common.specs.Pick.{pick}
+-- The code's sheet, a lent buffer with a place, filled as the plain one is: what it is lent stays, its bytes and the place change.
+use Rattle.std.specs.Prelude.{ℕ}
+use mathlib.Core.List.{List}
 use Rattle.append.specs.declared.Sheet.{Sheet}
-use Rattle.append.specs.Sheet as pad
+use Rattle.append.specs.Sheet as plain
 
--- the same, with another text and place
-abbrev pub holding : Sheet → pad.Sheet → Sheet
+-- what it holds
+abbrev pub shown : Sheet → plain.Sheet
+shown s = plain.sheet s.text.now s.at
+
+-- the same buffer, holding p
+abbrev pub holding : Sheet → plain.Sheet → Sheet
 holding s p = record s { text = record s.text { now = p.text }; at = p.at }
 
-abbrev pub shown : Sheet → pad.Sheet
-shown s = pad.sheet s.text.now s.at
-
+-- with one byte more
 abbrev pub pushed : Sheet → ℕ → Sheet
-pushed s c = holding s (pad.push (shown s) c)
+pushed s c = holding s (plain.push (shown s) c)
 
+-- with bytes put
 abbrev pub putting : Sheet → List ℕ → Sheet
-putting s t = holding s (pad.puts (shown s) t)
-
-abbrev pub pushd : pad.Sheet → ℕ → ℕ → pad.Sheet
-pushd s a b = pad.push (pad.push s a) b
+putting s t = holding s (plain.puts (shown s) t)

@@ -3,7 +3,6 @@
 
 ghost use Rattle.std.specs.Prelude.{◌≡◌};
 ghost use Rattle.append.specs.Lent.{putting};
-ghost use Rattle.append.specs.Sheet.{sheet, puts};
 ghost use Rattle.lister.specs.List.{script_text, list_text};
 
 use crate::body::lines;

@@ -3,7 +3,7 @@
 
 ghost use Rattle.std.specs.Prelude.{◌≡◌};
 ghost use Rattle.append.specs.Lent.{putting};
-ghost use Rattle.lister.specs.Row.{read_text, write_text, answer_text, word_text, event_text, flags_text, cycles_text, pad_text, plug_text, number_text, row_text};
+ghost use Rattle.lister.specs.Row.{read_text, write_text, answer_text, event_text, flags_text, cycles_text, pad_text, plug_text, number_text, row_text};
 
 use append::Sheet;
 use fields::word::{byte, two};

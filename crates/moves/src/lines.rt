@@ -1,8 +1,11 @@
 // The lines of one call (docs/MOVES.md). `row` is the row's number, from 1; `before` the machine before the call.
+#![tactic(auto, unfolding(append::specs::Sheet::puts, crate::specs::Text::cpu_text, crate::specs::Text::returned_text, crate::specs::Text::step_text), using(append::proofs::Laws::texts))]
+
 ghost use Rattle.std.specs.Prelude.{◌≡◌};
-ghost use Rattle.append.specs.Sheet.{sheet, puts};
+ghost use Rattle.append.specs.Lent.{putting};
 ghost use Rattle.moves.specs.Text.{cpu_text, returned_text, step_text};
 
+use append::Sheet;
 use benchfile::row::Row;
 use bus::access::Access;
 use listing::cycle::put_cycle;
@@ -15,57 +18,53 @@ use walk::call::Answer;
 use walk::stand::Stand;
 
 // The access of a read or a write row, or its refusal.
+#[tactic(auto, unfolding(crate::specs::Text::cpu_text), using(std::proofs::lemmas::Bool::Decides::nat_tests))]
 fn put_cpu(
-    out: &mut [u8],
-    at: usize,
+    out: &mut Sheet<'_>,
     row: u64,
     only: u32,
     before: Machine,
     access: Access,
     number: u8,
-) -> usize
-    ensures { sheet out.new result ≡ puts (sheet out.old at) (cpu_text row only before access number) }
+)
+    ensures { out.new ≡ putting out.old (cpu_text row only before access number) }
 {
     let clock = before.board.clock;
     if number != 0 {
-        return put_refused(out, at, row, clock, number);
+        put_refused(out, row, clock, number);
+    } else {
+        let l = Line {
+            row,
+            clock,
+            only,
+            who: Who::Cpu,
+        };
+        let r = reached(Who::Cpu, before.io.wmadd, access);
+        put_access(out, l, access, r, false);
     }
-    let io = before.io;
-    let w = io.wmadd;
-    let r = reached(Who::Cpu, w, access);
-    let l = Line {
-        row: row,
-        clock: clock,
-        only: only,
-        who: Who::Cpu,
-    };
-    put_access(out, at, l, access, r, false)
 }
 
 // The end of a row of back steps: its last step, or a refused one. Of its `count` steps `done` were accepted.
 fn put_returned(
-    out: &mut [u8],
-    at: usize,
+    out: &mut Sheet<'_>,
     row: u64,
     clock: u64,
     number: u8,
     done: u16,
     count: u16,
     origin: u32,
-) -> usize
-    ensures { sheet out.new result ≡ puts (sheet out.old at) (returned_text row clock number done count origin) }
+)
+    ensures { out.new ≡ putting out.old (returned_text row clock number done count origin) }
 {
-    if (number == 0) & (done < count) {
-        return at;
+    if !((number == 0) & (done < count)) {
+        put_back(out, row, clock, done as u32, count, origin);
+        put_refused(out, row, clock, number);
     }
-    let a = put_back(out, at, row, clock, done as u32, count, origin);
-    put_refused(out, a, row, clock, number)
 }
 
 // By the row's kind. `stand` counts the call, `clock` is the clock after it, and `origin` that of the slot it left as the next one.
 pub fn put_step(
-    out: &mut [u8],
-    at: usize,
+    out: &mut Sheet<'_>,
     row: u64,
     only: u32,
     before: Machine,
@@ -74,44 +73,38 @@ pub fn put_step(
     stand: Stand,
     clock: u64,
     origin: u32,
-) -> usize
-    ensures { sheet out.new result ≡ puts (sheet out.old at) (step_text row only before says answer stand clock origin) }
+)
+    ensures { out.new ≡ putting out.old (step_text row only before says answer stand clock origin) }
 {
-    let log = answer.log;
     let number = answer.number;
     match says {
-        Row::Cycles {
-            count,
-            event,
-            due,
-            timer,
-        } => {
-            let a = put_cycle(out, at, row, only, before, log, answer.edge);
+        Row::Cycles { count, .. } => {
+            put_cycle(out, row, only, before, answer.log, answer.edge);
             put_end(
-                out, a, row, clock, only, number, stand.held, stand.done, count,
-            )
+                out, row, clock, only, number, stand.held, stand.done, count,
+            );
         }
         Row::Read { bank, addr } => {
             let access = Access {
                 write: false,
-                bank: bank,
-                addr: addr,
+                bank,
+                addr,
                 byte: (answer.byte % 256) as u8,
             };
-            put_cpu(out, at, row, only, before, access, number)
+            put_cpu(out, row, only, before, access, number);
         }
         Row::Write { bank, addr, byte } => {
             let access = Access {
                 write: true,
-                bank: bank,
-                addr: addr,
-                byte: byte,
+                bank,
+                addr,
+                byte,
             };
-            put_cpu(out, at, row, only, before, access, number)
+            put_cpu(out, row, only, before, access, number);
         }
         Row::Back { count } => {
-            put_returned(out, at, row, clock, number, stand.done, count, origin)
+            put_returned(out, row, clock, number, stand.done, count, origin);
         }
-        _ => put_refused(out, at, row, clock, number),
+        _ => put_refused(out, row, clock, number),
     }
 }

@@ -2,6 +2,7 @@
 // has room.
 use crate::row::Show;
 use crate::rows::run_rows;
+use append::Sheet;
 use fields::part::part;
 use script::rig::Rig;
 use start::begin;
@@ -62,9 +63,12 @@ fn write_shown(rt: &impl Print, file: &[u8], show: Show) -> io::Result<Written> 
 
 // Document 01's line of a file that cannot be run.
 fn write_refused(rt: &impl Print, number: u8) -> io::Result<()> {
-    let mut out = [0u8; 105];
-    let used = append_line(&mut out, 0, 0, 0, number, 0, 0);
-    write_text(rt, &out, used)
+    let mut out = Sheet {
+        text: &mut [0u8; 105],
+        at: 0,
+    };
+    append_line(&mut out, 0, 0, number, 0, 0);
+    rt.write_all(out.written())
 }
 
 // All that the trace program prints for a file.

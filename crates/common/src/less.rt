@@ -5,8 +5,5 @@ ghost use Rattle.std.specs.Prelude.{◌≡◌, ◌-◌};
 pub fn less_one(n: u32) -> u32
     ensures { result ≡ n - 1 }
 {
-    if n == 0 {
-        return 0;
-    }
-    n - 1
+    n.saturating_sub(1)
 }

@@ -1,6 +1,7 @@
 // The lines of one call (docs/MOVES.md). `row` is the row's number, from 1; `before` the machine before the call.
 ghost use Rattle.std.specs.Prelude.{◌≡◌};
 ghost use Rattle.append.specs.Sheet.{sheet, puts};
+ghost use Rattle.walk.specs.Call.{answered};
 ghost use Rattle.moves.specs.Text.{cpu_text, returned_text, step_text};
 
 use benchfile::row::Row;
@@ -8,6 +9,7 @@ use bus::access::Access;
 use listing::cycle::put_cycle;
 use listing::event::{put_back, put_end, put_refused};
 use listing::line::{Line, put_access};
+use script::repeat::number_of;
 use state::Machine;
 use touch::reach::reached;
 use touch::who::Who;
@@ -75,10 +77,10 @@ pub fn put_step(
     clock: u64,
     origin: u32,
 ) -> usize
-    ensures { sheet out.new result ≡ puts (sheet out.old at) (step_text row only before says answer stand clock origin) }
+    ensures { sheet out.new result ≡ puts (sheet out.old at) (step_text row only before says (answered answer) stand clock origin) }
 {
     let log = answer.log;
-    let number = answer.number;
+    let number = number_of(answer.refusal);
     match says {
         Row::Cycles {
             count,

@@ -22,11 +22,13 @@ fn show(rt: HostRuntime, file: &[u8], only: u32) {
     let mut entries = [0u8; 65536];
     let mut origins = [0u32; 256];
     let mut out = [0u8; 65536];
-    let s = begin(file, &mut low, &mut high);
-    if s.number != 0 {
-        refused(rt, b"moves", 0, s.number);
-        return;
-    }
+    let s = match begin(file, &mut low, &mut high) {
+        Ok(s) => s,
+        Err(refusal) => {
+            refused(rt, b"moves", 0, refusal.number());
+            return;
+        }
+    };
     let mut w = Run {
         rig: Rig {
             bench: s.bench,
@@ -40,7 +42,7 @@ fn show(rt: HostRuntime, file: &[u8], only: u32) {
             done: 0,
             held: 0,
         },
-        number: 0,
+        refusal: None,
         out: &mut out,
         used: 0,
     };

@@ -11,7 +11,7 @@ pub fn write_script(rt: &impl Print, w: &mut Run<'_>, origins: &mut [u32], scrip
         let used = w.used;
         rt.write_all(part(w.out, 0, used))?;
         w.used = 0;
-        if (w.number != 0) | (script.len() / 8 <= w.stand.next) {
+        if w.refusal.is_some() | (script.len() / 8 <= w.stand.next) {
             break;
         }
     }

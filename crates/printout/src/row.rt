@@ -6,7 +6,7 @@ ghost use Rattle.printout.specs.Row.{shown_text, shown, row_shown};
 
 use benchfile::row::row_of;
 use fields::word::byte;
-use script::repeat::Ran;
+use script::repeat::{Ran, number_of};
 use script::rig::Rig;
 use script::row::run_row;
 use wording::line::{append_line, append_sum};
@@ -54,6 +54,6 @@ pub fn run_line(rig: &mut Rig<'_>, row: &[u8], number: u64, show: Show, out: &mu
 {
     let kind = byte(row, 0);
     let ran = run_row(rig, row_of(row));
-    let used = put_shown(out, used, show, number, kind, ran.number, ran.a, ran.b, rig.bench.sum);
+    let used = put_shown(out, used, show, number, kind, number_of(ran.refusal), ran.a, ran.b, rig.bench.sum);
     Lined { ran, used }
 }

@@ -4,7 +4,7 @@ ghost use Rattle.moves.specs.Steps.{running, keeping, listed, stepped, steps};
 
 use crate::lines::put_step;
 use crate::origin::{note, origin_at, origin_of};
-use append::has_room;
+use append::{Sheet, has_room};
 use common::refusal::Refusal;
 use script::rig::Rig;
 use walk::stand::Stand;
@@ -34,9 +34,14 @@ fn list_call(w: &mut Run<'_>, origins: &mut [u32], script: &[u8], only: u32, row
     let origin = origin_at(origins, after.slot);
     let clock = after.machine.board.clock;
     let used = w.used;
-    w.used = put_step(
-        w.out, used, row as u64, only, b.machine, s.says, s.answer, s.stand, clock, origin,
+    let mut text = Sheet {
+        text: w.out,
+        at: used,
+    };
+    put_step(
+        &mut text, row as u64, only, b.machine, s.says, s.answer, s.stand, clock, origin,
     );
+    w.used = text.at;
     w.stand = s.next;
     w.refusal = s.answer.refusal;
 }

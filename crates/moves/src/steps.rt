@@ -29,7 +29,12 @@ fn list_call(w: &mut Run<'_>, origins: &mut [u32], script: &[u8], only: u32, row
     let stand = w.stand;
     let s = next_call(&mut w.rig, script, stand);
     let here = origin_of(row, stand.done);
-    note(origins, b.slot, here, s.answer.refusal.is_none() & !s.answer.back);
+    note(
+        origins,
+        b.slot,
+        here,
+        s.answer.refusal.is_none() & !s.answer.back,
+    );
     let after = w.rig.bench;
     let origin = origin_at(origins, after.slot);
     let clock = after.machine.board.clock;

@@ -23,7 +23,12 @@ pub struct Written {
 }
 
 // All rows of a script. Each turn runs at least one, so as many turns as there are rows are enough.
-fn write_rows(rt: &impl Print, rig: &mut Rig<'_>, script: &[u8], show: Show) -> io::Result<Written> {
+fn write_rows(
+    rt: &impl Print,
+    rig: &mut Rig<'_>,
+    script: &[u8],
+    show: Show,
+) -> io::Result<Written> {
     let mut out = [0u8; 4096];
     let rows = script.len() / 8;
     let mut w = Written {

@@ -50,7 +50,14 @@ fn put_shown(
 
 // Runs the row of these 8 bytes, the `number`th of its script.
 #[tactic(auto, unfolding(crate::specs::Row::row_shown))]
-pub fn run_line(rig: &mut Rig<'_>, row: &[u8], number: u64, show: Show, out: &mut [u8], used: usize) -> Lined
+pub fn run_line(
+    rig: &mut Rig<'_>,
+    row: &[u8],
+    number: u64,
+    show: Show,
+    out: &mut [u8],
+    used: usize,
+) -> Lined
     ensures same { rig.new ≡ holding rig.old (desk_of rig.new) }
     ensures value { shown result rig.new out.new ≡ row_shown rig.old.rom.now row.now number show (desk_of rig.old) (sheet out.old used) }
 {

@@ -55,7 +55,16 @@ fn cycle_step(rig: &mut Rig<'_>, s: Ran, event: u8, line: bool, timer: bool) -> 
     if s.refusal.is_some() {
         return s;
     }
-    match cycle(rig.bench, rig.low, rig.high, rig.entries, rig.rom, event, line, timer) {
+    match cycle(
+        rig.bench,
+        rig.low,
+        rig.high,
+        rig.entries,
+        rig.rom,
+        event,
+        line,
+        timer,
+    ) {
         Ok(r) => {
             rig.bench = r.bench;
             Ran {
@@ -81,7 +90,13 @@ pub fn run_cycles(rig: &mut Rig<'_>, count: u16, event: u8, line: bool, timer: b
         b: 0,
     };
     for i in 0..count {
-        s = cycle_step(rig, s, first_of(i, event), first_flag(i, line), first_flag(i, timer));
+        s = cycle_step(
+            rig,
+            s,
+            first_of(i, event),
+            first_flag(i, line),
+            first_flag(i, timer),
+        );
     }
     s
 }

@@ -54,7 +54,15 @@ pub fn run_row(rig: &mut Rig<'_>, row: Row) -> Ran
             timer,
         } => run_cycles(rig, count, event, due, timer),
         Row::Read { bank, addr } => {
-            match read(rig.bench, rig.low, rig.high, rig.entries, rig.rom, bank, addr) {
+            match read(
+                rig.bench,
+                rig.low,
+                rig.high,
+                rig.entries,
+                rig.rom,
+                bank,
+                addr,
+            ) {
                 Ok(r) => {
                     rig.bench = r.bench;
                     Ran {
@@ -67,7 +75,16 @@ pub fn run_row(rig: &mut Rig<'_>, row: Row) -> Ran
             }
         }
         Row::Write { bank, addr, byte } => {
-            match write(rig.bench, rig.low, rig.high, rig.entries, rig.rom, bank, addr, byte) {
+            match write(
+                rig.bench,
+                rig.low,
+                rig.high,
+                rig.entries,
+                rig.rom,
+                bank,
+                addr,
+                byte,
+            ) {
                 Ok(r) => {
                     rig.bench = r.bench;
                     Ran {
@@ -80,7 +97,15 @@ pub fn run_row(rig: &mut Rig<'_>, row: Row) -> Ran
             }
         }
         Row::Pad { port, word } => {
-            let made = pad(rig.bench, rig.low, rig.high, rig.entries, rig.rom, port, word);
+            let made = pad(
+                rig.bench,
+                rig.low,
+                rig.high,
+                rig.entries,
+                rig.rom,
+                port,
+                word,
+            );
             run_plain(rig, made)
         }
         Row::Plug { port, on } => {
@@ -88,7 +113,15 @@ pub fn run_row(rig: &mut Rig<'_>, row: Row) -> Ran
             run_plain(rig, made)
         }
         Row::Answer { addr, byte } => {
-            let made = port_answer(rig.bench, rig.low, rig.high, rig.entries, rig.rom, addr, byte);
+            let made = port_answer(
+                rig.bench,
+                rig.low,
+                rig.high,
+                rig.entries,
+                rig.rom,
+                addr,
+                byte,
+            );
             run_plain(rig, made)
         }
         Row::Back { count } => run_backs(rig, count),

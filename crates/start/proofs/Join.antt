@@ -1,9 +1,7 @@
 -- The calls of a start, joined into its definition.
 use Prim.Native.Nat.{ℕ}
-use mathlib.Core.Bool.{true, false}
 use mathlib.Core.List.{List}
 use mathlib.Core.Path.{◌≡◌, sym}
-use lib.Dec.{eqb}
 use Rattle.bench.specs.Calls.{FreshOut, fresh_call}
 use Rattle.common.specs.Refusal.{refusal_number}
 use Rattle.common.specs.declared.refusal.Refusal.{Refusal}

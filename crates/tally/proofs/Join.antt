@@ -1,31 +1,21 @@
 -- The parts of a count, joined into its definitions.
-use Rattle.std.proofs.Common.{◌≡◌, ℕ, ◌+◌, ◌-◌, ◌%◌, ◌^◌, min, Bool, true, false, eqb, List, [], ◌∷◌, get_or, set, refl, ap, ◌∙◌, add-one, eqb-true, Result, Ok, Err}
+use Rattle.std.proofs.Common.{◌≡◌, ℕ, ◌+◌, ◌-◌, ◌%◌, ◌^◌, min, Bool, true, false, eqb, List, [], ◌∷◌, refl, ap, ◌∙◌, add-one, eqb-true, Result, Ok, Err}
 use Rattle.std.specs.Result.{result_err}
-use denote.Enum.Declared.{tag_of}
-use types.Run.{OneOf, miss}
 use mir.Val.{bool_byte}
-use Rattle.common.specs.Pick.{pick}
-use Rattle.bench.specs.Calls.{desk}
 use Rattle.benchfile.specs.Row.{row_at}
-use Rattle.fields.specs.Bytes.{part_of}
 use Rattle.common.specs.Refusal.{number_of, result_number}
 use Rattle.common.specs.declared.refusal.Refusal.{Refusal}
 use Rattle.walk.specs.Call.{Calling, call_of}
-use Rattle.start.specs.Start.{Starting, start_run}
-use Rattle.benchfile.specs.contracts.row.Row.{the_type}
 use Rattle.benchfile.specs.declared.row.Row.{Row}
-use Rattle.benchfile.specs.declared.row.Row.TheVariants.{Cycles, Read, Write, Pad, Plug, Answer as Reply, Back, Broken}
 use Rattle.bus.specs.{Access.accesses_of, Access.Log}
-use Rattle.state.specs.declared.{Dma.Dma, DmaState.DmaState}
-use Rattle.touch.specs.Who.{who_of}
+use Rattle.state.specs.declared.{DmaState.DmaState}
 use Rattle.touch.specs.declared.who.Who.{Who}
-use Rattle.touch.specs.declared.who.Who.TheVariants.{Cpu, Dma as General, Hdma}
-use Rattle.tally.specs.Alive.{latest_of, Rows, rows, noted}
+use Rattle.tally.specs.Alive.{Rows, noted}
 use Rattle.tally.specs.Figure.{writes, state_number}
-use Rattle.tally.specs.File.{row_by, FileRun, file_ran, first, file_run, file_counting, file_count}
-use Rattle.tally.specs.Run.{Tallying, keeping, count_by, refused_by, call_tallied, limit_of, step_tallied, calls_tallied, row_tallied, rows_tallied, script_tallied}
+use Rattle.tally.specs.File.{FileRun, file_run, file_counting, file_count}
+use Rattle.tally.specs.Run.{Tallying, keeping, count_by, refused_by, call_tallied, limit_of, step_tallied, calls_tallied, row_tallied, rows_tallied}
 use Rattle.tally.specs.declared.run.Tally.{Tally}
-use Rattle.tally.specs.Share.{made_by, share, share_by, share_of, Counted, counted, count_call}
+use Rattle.tally.specs.Share.{made_by, share_by, share_of, Counted}
 use Rattle.tally.specs.declared.share.Share.{Share}
 use Rattle.tally.proofs.Writes.{length-firsts}
 

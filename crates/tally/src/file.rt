@@ -46,10 +46,18 @@ fn run_file(
         alive,
         totals,
     };
-    tally_script(&mut rig, &mut t, part(file, s.script.at, s.script.size), limits);
+    tally_script(
+        &mut rig,
+        &mut t,
+        part(file, s.script.at, s.script.size),
+        limits,
+    );
     match t.refusal {
         None => Ok(()),
-        Some(refusal) => Err(Refused { refusal, row: t.row }),
+        Some(refusal) => Err(Refused {
+            refusal,
+            row: t.row,
+        }),
     }
 }
 

@@ -28,7 +28,14 @@ pub struct Tally<'a> {
 }
 
 // Only a cycle counts: nothing else is held, or has the DMA unit do anything. `dma` is the unit before it.
-fn count_in(totals: &mut [u64], says: Row, dma: Dma, held: bool, after: DmaState, log: Log) -> Result<(), Refusal>
+fn count_in(
+    totals: &mut [u64],
+    says: Row,
+    dma: Dma,
+    held: bool,
+    after: DmaState,
+    log: Log,
+) -> Result<(), Refusal>
     ensures { counted (result_number result) totals.new ≡ count_in says dma held after log totals.old }
 {
     match says {

@@ -1,4 +1,3 @@
-use Rattle.std.proofs.Common.{rules}
 use Rattle.ring.proofs.Also.{refuses}
 use Rattle.script.specs.Run.{ran}
 use Rattle.script.proofs.Join.{stopped, unrefused, cycle_stopped, cycle_goes}

@@ -43,11 +43,29 @@ pub fn unread(rt: HostRuntime, name: &[u8], error: io::Error) {
     fail(rt, part(&out, 0, b), error);
 }
 
-// `page: standard output: No space left on device`. A reader that has left wants no more, and nothing is wrong.
-pub fn unwritten(rt: HostRuntime, what: &[u8], error: io::Error) {
+// A reader that has left wants no more, and nothing is wrong.
+pub fn untaken(rt: HostRuntime, what: &[u8], error: io::Error) {
     if error.kind() != ErrorKind::BrokenPipe {
         fail(rt, what, error);
     }
+}
+
+// `page: standard output: No space left on device`
+pub fn unwritten(rt: HostRuntime, name: &[u8], error: io::Error) {
+    let mut out = [0u8; 64];
+    let a = put(&mut out, 0, name);
+    let b = put(&mut out, a, b": standard output");
+    untaken(rt, part(&out, 0, b), error);
+}
+
+// `trace: expected no argument: the bench file comes on standard input`
+pub fn no_argument(rt: HostRuntime, name: &[u8], input: &[u8]) {
+    let mut out = [0u8; 128];
+    let a = put(&mut out, 0, name);
+    let b = put(&mut out, a, b": expected no argument: the ");
+    let c = put(&mut out, b, input);
+    let d = put(&mut out, c, b" comes on standard input\n");
+    say(rt, part(&out, 0, d));
 }
 
 // `figures: missing.bench: No such file or directory`

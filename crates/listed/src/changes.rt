@@ -2,84 +2,51 @@
 use append::number::{glyph, hex_byte, hex_word};
 use append::push_byte;
 
-// ` m019=14`: a name, the place in so many digits, and the new byte.
-fn change(line: &mut [u8], at: usize, name: u8, width: u8, place: usize, byte: u8) -> usize {
+// How many digits a place has.
+#[derive(Clone, Copy)]
+pub enum Digits {
+    Two,
+    Three,
+    Six,
+}
+
+// ` m019=14`: a name, the place, and the new byte.
+fn change(line: &mut [u8], at: usize, name: u8, digits: Digits, place: usize, byte: u8) -> usize {
     let a = push_byte(line, at, b' ');
     let b = push_byte(line, a, name);
-    let c = digits(line, b, width, place);
+    let c = put_place(line, b, digits, place);
     let d = push_byte(line, c, b'=');
     hex_byte(line, d, byte)
 }
 
-// A place in six digits, three or two.
-fn digits(line: &mut [u8], at: usize, width: u8, place: usize) -> usize {
-    if width == 6 {
-        let a = hex_byte(line, at, (place / 65536 % 256) as u8);
-        return hex_word(line, a, (place % 65536) as u16);
-    }
-    if width == 3 {
-        let a = push_byte(line, at, glyph((place / 256 % 16) as u8));
-        return hex_byte(line, a, (place % 256) as u8);
-    }
-    hex_byte(line, at, (place % 256) as u8)
-}
-
-// A place where two rows differ.
-fn change_at(
-    line: &mut [u8],
-    at: usize,
-    name: u8,
-    width: u8,
-    before: &[u8],
-    after: &[u8],
-    i: usize,
-) -> usize {
-    if same_at(before, after, i) {
-        return at;
-    }
-    if i < after.len() {
-        return change(line, at, name, width, i, after[i]);
-    }
-    at
-}
-
-// Whether two rows have the same byte at a place; where one has none there is nothing to compare.
-fn same_at(before: &[u8], after: &[u8], i: usize) -> bool {
-    if i < before.len() {
-        if i < after.len() {
-            return before[i] == after[i];
+fn put_place(line: &mut [u8], at: usize, digits: Digits, place: usize) -> usize {
+    match digits {
+        Digits::Two => hex_byte(line, at, (place % 256) as u8),
+        Digits::Three => {
+            let a = push_byte(line, at, glyph((place / 256 % 16) as u8));
+            hex_byte(line, a, (place % 256) as u8)
+        }
+        Digits::Six => {
+            let a = hex_byte(line, at, (place / 65536 % 256) as u8);
+            hex_word(line, a, (place % 65536) as u16)
         }
     }
-    true
 }
 
-// All places where two rows differ.
+// All places where two rows differ; where one has no byte there is nothing to compare.
 pub fn changes(
     line: &mut [u8],
     at: usize,
     name: u8,
-    width: u8,
+    digits: Digits,
     before: &[u8],
     after: &[u8],
 ) -> usize {
     let mut end = at;
-    let mut i = 0;
-    while i < after.len() {
-        let next = change_at(line, end, name, width, before, after, i);
-        end = next;
-        i += 1;
+    for (place, (old, new)) in before.iter().zip(after).enumerate() {
+        if old != new {
+            end = change(line, end, name, digits, place, *new);
+        }
     }
     end
-}
-
-// Whether two rows differ anywhere.
-pub fn differ(before: &[u8], after: &[u8]) -> bool {
-    let mut i = 0;
-    while i < after.len() {
-        if !same_at(before, after, i) {
-            return true;
-        }
-        i += 1;
-    }
-    false
 }

@@ -5,11 +5,12 @@ use bench::operate::Answer;
 use bench::page::{page_look, page_number};
 use fields::part::part;
 use fields::put;
-use fields::word::{byte, four, two};
+use fields::word::{four, two};
+use std::io;
 
 // The lengths of both banks, record length and bit cycles are given. Every byte lent is $A5, but for the first of $7F. The line says the
 // number, and bit cycles, record length, next slot, kept and sum of what fresh gave.
-pub fn fresh_tried(rt: HostRuntime, given: &[u8]) -> bool {
+pub fn fresh_tried(rt: HostRuntime, given: &[u8]) -> io::Result<()> {
     let low = [0xA5u8; 65537];
     let mut high = [0xA5u8; 65537];
     high[0] = 0x5A;
@@ -22,45 +23,45 @@ pub fn fresh_tried(rt: HostRuntime, given: &[u8]) -> bool {
     say_fresh(rt, a)
 }
 
-fn say_fresh(rt: HostRuntime, a: Answer) -> bool {
+fn say_fresh(rt: HostRuntime, a: Answer) -> io::Result<()> {
     let b = a.bench;
-    say_named(rt, b": ", a.number as usize);
-    say_named(rt, b", bit cycles ", b.machine.board.bitcycles as usize);
-    say_named(rt, b", record length ", b.length);
-    say_named(rt, b", slot ", b.slot);
-    say_named(rt, b", kept ", b.kept);
-    say_named(rt, b", sum ", b.sum as usize);
+    say_named(rt, b": ", a.number as u64)?;
+    say_named(rt, b", bit cycles ", b.machine.board.bitcycles as u64)?;
+    say_named(rt, b", record length ", b.length as u64)?;
+    say_named(rt, b", slot ", b.slot as u64)?;
+    say_named(rt, b", kept ", b.kept as u64)?;
+    say_named(rt, b", sum ", b.sum as u64)?;
     say(rt, b"\n")
 }
 
 // The length of the part handed back.
-pub fn say_part(rt: HostRuntime, bytes: &[u8]) -> bool {
-    say_named(rt, b", part of ", bytes.len())
+pub fn say_part(rt: HostRuntime, bytes: &[u8]) -> io::Result<()> {
+    say_named(rt, b", part of ", bytes.len() as u64)
 }
 
 // Its first byte, where it has one.
-fn say_first(rt: HostRuntime, bytes: &[u8]) -> bool {
-    if bytes.len() == 0 {
-        return true;
+fn say_first(rt: HostRuntime, bytes: &[u8]) -> io::Result<()> {
+    match bytes.first() {
+        Some(first) => say_named(rt, b", first byte ", *first as u64),
+        None => Ok(()),
     }
-    say_named(rt, b", first byte ", byte(bytes, 0) as usize)
 }
 
 // Bytes that tell the pages: 1 and 2 on the low bank's first and last, 3 and 4 on the high bank's.
 fn mark(bank: &mut [u8], first: u8, last: u8) {
-    let a = [first];
-    let b = [last];
-    put(bank, 0, &a);
-    put(bank, 65280, &b);
+    put(bank, 0, &[first]);
+    put(bank, 65280, &[last]);
 }
 
-fn look<'a>(rt: HostRuntime, low: &'a [u8], high: &'a [u8], page: u16) -> bool {
+fn look<'a>(rt: HostRuntime, low: &'a [u8], high: &'a [u8], page: u16) -> io::Result<()> {
     let bytes = page_look(low, high, page);
-    say_part(rt, bytes) & say_first(rt, bytes) & say_last(rt, page_number(low, high, page))
+    say_part(rt, bytes)?;
+    say_first(rt, bytes)?;
+    say_last(rt, page_number(low, high, page))
 }
 
 // The lengths of both banks and the page are given.
-pub fn page_tried(rt: HostRuntime, given: &[u8]) -> bool {
+pub fn page_tried(rt: HostRuntime, given: &[u8]) -> io::Result<()> {
     let mut low = [0u8; 65537];
     let mut high = [0u8; 65537];
     mark(&mut low, 1, 2);

@@ -59,7 +59,12 @@ pub fn read_file(rt: HostRuntime, name: &[u8], buf: &mut [u8]) -> io::Result<usi
 
 // The bench file of a name; none where it cannot be read, which is said. A buffer of one byte more than a bench file may have tells a
 // longer one.
-pub fn read_named<'a>(rt: HostRuntime, name: &[u8], file: &[u8], buf: &'a mut [u8]) -> Option<&'a [u8]> {
+pub fn read_named<'a>(
+    rt: HostRuntime,
+    name: &[u8],
+    file: &[u8],
+    buf: &'a mut [u8],
+) -> Option<&'a [u8]> {
     match read_file(rt, file, buf) {
         Ok(n) => Some(&buf[..n]),
         Err(error) => {

@@ -76,5 +76,11 @@ fn listed(rt: HostRuntime, file: &[u8]) -> io::Result<()> {
 
 pub fn list(rt: HostRuntime) {
     let mut buf = [0u8; BENCH];
-    run_alone(rt, b"list", b"bench file", &mut buf, |file| listed(rt, file));
+    run_alone(
+        rt,
+        b"list",
+        b"bench file",
+        &mut buf,
+        |file| listed(rt, file),
+    );
 }

@@ -132,6 +132,7 @@ pub fn argument(rt: HostRuntime, i: usize, buf: &mut [u8]) -> usize {
 }
 
 // The place in work RAM that the first argument names; where it names none, that is said.
+#[tactic(auto, using(dump::proofs::Under::offset_named_under))]
 pub fn place_given(rt: HostRuntime, name: &[u8]) -> Option<u32>
     ensures { IfSome result (λ at. at < 131072) }
 {

@@ -26,11 +26,13 @@ fn show(rt: HostRuntime, file: &[u8], only: Option<u32>) -> io::Result<()> {
     let mut entries = [0u8; 65536];
     let mut origins = [0u32; 256];
     let mut out = [0u8; 65536];
-    let s = begin(file, &mut low, &mut high);
-    if s.number != 0 {
-        refused(rt, b"moves", 0, s.number);
-        return Ok(());
-    }
+    let s = match begin(file, &mut low, &mut high) {
+        Ok(s) => s,
+        Err(refusal) => {
+            refused(rt, b"moves", 0, refusal.number());
+            return Ok(());
+        }
+    };
     let mut w = Run {
         rig: Rig {
             bench: s.bench,
@@ -44,7 +46,7 @@ fn show(rt: HostRuntime, file: &[u8], only: Option<u32>) -> io::Result<()> {
             done: 0,
             held: 0,
         },
-        number: 0,
+        refusal: None,
         out: &mut out,
         used: 0,
     };

@@ -9,6 +9,7 @@ use input::complaint::{refused, say};
 use input::{BENCH, argument_count, place_given, run_on_input};
 use printout::row::Show;
 use printout::rows::run_rows;
+use script::rig::Rig;
 use start::begin;
 use std::io;
 
@@ -28,26 +29,24 @@ fn show(rt: HostRuntime, file: &[u8], page: u16) -> io::Result<()> {
     let mut high = [0u8; 65536];
     let mut entries = [0u8; 65536];
     let mut line = [0u8; 105];
-    let s = begin(file, &mut low, &mut high);
-    if s.number != 0 {
-        refused(rt, b"page", 0, s.number);
-        return Ok(());
-    }
-    let rom = part(file, s.rom.at, s.rom.size);
+    let s = match begin(file, &mut low, &mut high) {
+        Ok(s) => s,
+        Err(refusal) => {
+            refused(rt, b"page", 0, refusal.number());
+            return Ok(());
+        }
+    };
+    let mut rig = Rig {
+        bench: s.bench,
+        low: &mut low,
+        high: &mut high,
+        entries: &mut entries,
+        rom: part(file, s.rom.at, s.rom.size),
+    };
     let script = part(file, s.script.at, s.script.size);
-    let e = run_rows(
-        s.bench,
-        &mut low,
-        &mut high,
-        &mut entries,
-        rom,
-        script,
-        0,
-        Show::Nothing,
-        &mut line,
-    );
-    if e.number != 0 {
-        refused(rt, b"page", e.next, e.number);
+    let e = run_rows(&mut rig, script, 0, Show::Nothing, &mut line);
+    if let Some(refusal) = e.refusal {
+        refused(rt, b"page", e.next, refusal.number());
     }
     write_page(rt, &low, &high, page)
 }

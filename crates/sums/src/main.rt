@@ -8,8 +8,8 @@ use std::io;
 
 fn show(rt: HostRuntime, file: &[u8]) -> io::Result<()> {
     let w = write_sums(&rt, file)?;
-    if w.number != 0 {
-        refused(rt, b"sums", w.rows, w.number);
+    if let Some(refusal) = w.refusal {
+        refused(rt, b"sums", w.rows, refusal.number());
     }
     Ok(())
 }

@@ -1,4 +1,5 @@
 // What is written: the line of each file, and the table.
+use crate::folder::End;
 use append::Sheet;
 use fields::part::part;
 use input::argument;
@@ -7,27 +8,23 @@ use std::io;
 use totals::folder::Folder;
 
 // A file that was read has a name of at most 4,095 bytes.
-fn write_file(rt: HostRuntime, i: usize, number: u8, row: u64) -> io::Result<()> {
+fn write_file(rt: HostRuntime, i: usize, end: End) -> io::Result<()> {
     let mut name = [0u8; 4096];
     let mut out = Sheet {
         text: &mut [0u8; 4224],
         at: 0,
     };
     let n = argument(rt, i, &mut name);
-    put_file(&mut out, i as u64, number, row, part(&name, 0, n));
+    let name = part(&name, 0, n);
+    put_file(&mut out, i as u64, end.number, end.row, name);
     rt.write_all(out.written())
 }
 
 // Files count from 1.
-pub fn write_files(
-    rt: HostRuntime,
-    files: u64,
-    numbers: &[u8; 257],
-    rows: &[u64; 257],
-) -> io::Result<()> {
-    for file in 1..257usize {
-        if file as u64 <= files {
-            write_file(rt, file, numbers[file], rows[file])?;
+pub fn write_files(rt: HostRuntime, files: u64, ends: &[End; 257]) -> io::Result<()> {
+    for (i, end) in ends.iter().enumerate().skip(1) {
+        if i as u64 <= files {
+            write_file(rt, i, *end)?;
         }
     }
     Ok(())

@@ -48,11 +48,35 @@ pub fn unread(rt: HostRuntime, name: &[u8], error: io::Error) {
     fail(rt, out.written(), error);
 }
 
-// `page: standard output: No space left on device`. A reader that has left wants no more, and nothing is wrong.
-pub fn unwritten(rt: HostRuntime, what: &[u8], error: io::Error) {
+// A reader that has left wants no more, and nothing is wrong.
+pub fn untaken(rt: HostRuntime, what: &[u8], error: io::Error) {
     if error.kind() != ErrorKind::BrokenPipe {
         fail(rt, what, error);
     }
+}
+
+// `page: standard output: No space left on device`
+pub fn unwritten(rt: HostRuntime, name: &[u8], error: io::Error) {
+    let mut out = Sheet {
+        text: &mut [0u8; 64],
+        at: 0,
+    };
+    out.put(name);
+    out.put(b": standard output");
+    untaken(rt, out.written(), error);
+}
+
+// `trace: expected no argument: the bench file comes on standard input`
+pub fn no_argument(rt: HostRuntime, name: &[u8], input: &[u8]) {
+    let mut out = Sheet {
+        text: &mut [0u8; 128],
+        at: 0,
+    };
+    out.put(name);
+    out.put(b": expected no argument: the ");
+    out.put(input);
+    out.put(b" comes on standard input\n");
+    say(rt, out.written());
 }
 
 // `figures: missing.bench: No such file or directory`

@@ -3,9 +3,11 @@
 
 pub mod complaint;
 
+ghost use Rattle.std.specs.Prelude.{◌<◌, length, take, IfOk, IfSome};
 ghost use Rattle.std.specs.Io.{ReadsAtMost};
+ghost use Rattle.std.specs.Io.KnownBytes.{Consumes, IsAtEnd};
 
-use complaint::{no_place, unread, unread_file};
+use complaint::{no_argument, no_place, unread, unread_file, unwritten};
 use dump::place::place;
 use fields::part::part;
 use std::env::{Env, FillError};
@@ -18,16 +20,15 @@ const EINVAL: i32 = 22;
 
 const EILSEQ: i32 = 84;
 
-// How many bytes came, and whether every read succeeded.
-#[derive(Clone, Copy)]
-pub struct Got {
-    pub n: usize,
-    pub ok: bool,
-}
+// The longest bench file, and one byte more, which tells a longer one.
+pub const BENCH: usize = 65537;
 
-// Until the end of input, or until the buffer is full, however many pieces it comes in. Answers how many bytes came.
+// Until the end of input, or until the buffer is full, however many pieces it comes in. Answers how many bytes came. An index counts them,
+// since `read_exact` of the library tells a short input from a whole one, but not how short it is.
 pub fn read_all<R: Read>(from: &mut R, buf: &mut [u8]) -> io::Result<usize>
-    ensures { ReadsAtMost result buf.new }
+    ensures bound { ReadsAtMost result buf.new }
+    ensures bytes { IfOk result (λ n. Consumes (R.remaining from.old) (R.remaining from.new) (take n buf.new)) }
+    ensures end { IfOk result (λ n. n < length buf.new → IsAtEnd (R.remaining from.new)) }
 {
     let mut n = 0;
     while n < buf.len() {
@@ -45,39 +46,68 @@ fn open(rt: HostRuntime, name: &[u8]) -> io::Result<File> {
     if name.contains(&0) {
         return Err(io::Error::from_raw_os_error(EINVAL));
     }
-    match str::from_utf8(name) {
-        Ok(path) => File::open(&rt, path),
-        Err(_) => Err(io::Error::from_raw_os_error(EILSEQ)),
-    }
+    let path = str::from_utf8(name).map_err(|_| io::Error::from_raw_os_error(EILSEQ))?;
+    File::open(&rt, path)
 }
 
-// The file of a name, likewise.
+// The file of a name, likewise. No clause of the library says which bytes a file has.
 pub fn read_file(rt: HostRuntime, name: &[u8], buf: &mut [u8]) -> io::Result<usize>
     ensures { ReadsAtMost result buf.new }
 {
-    let mut file = open(rt, name)?;
-    read_all(&mut file, buf)
+    read_all(&mut open(rt, name)?, buf)
 }
 
-// The bench file on standard input, for the program of that name. A buffer of one byte more than a bench file may have tells a longer one.
-pub fn read_bench(rt: HostRuntime, name: &[u8], buf: &mut [u8]) -> Got {
-    match read_all(&mut rt.stdin(), buf) {
-        Ok(n) => Got { n: n, ok: true },
+// The bench file of a name; none where it cannot be read, which is said. A buffer of one byte more than a bench file may have tells a
+// longer one.
+pub fn read_named<'a>(
+    rt: HostRuntime,
+    name: &[u8],
+    file: &[u8],
+    buf: &'a mut [u8],
+) -> Option<&'a [u8]> {
+    match read_file(rt, file, buf) {
+        Ok(n) => Some(&buf[..n]),
         Err(error) => {
-            unread(rt, name, error);
-            Got { n: 0, ok: false }
+            unread_file(rt, name, file, error);
+            None
         }
     }
 }
 
-// The bench file of a name, likewise.
-pub fn read_named(rt: HostRuntime, name: &[u8], file: &[u8], buf: &mut [u8]) -> Got {
-    match read_file(rt, file, buf) {
-        Ok(n) => Got { n: n, ok: true },
-        Err(error) => {
-            unread_file(rt, name, file, error);
-            Got { n: 0, ok: false }
+// What comes on standard input, as much as the buffer has room for, goes to `run`, for the program of that name. Where it cannot be read,
+// or what is written is not taken, a line says so.
+pub fn run_on_input<F: FnOnce(&[u8]) -> io::Result<()>>(
+    rt: HostRuntime,
+    name: &[u8],
+    buf: &mut [u8],
+    run: F,
+)
+    requires { F.IsAlwaysCallable run }
+{
+    match read_all(&mut rt.stdin(), buf) {
+        Ok(n) => {
+            if let Err(error) = run(&buf[..n]) {
+                unwritten(rt, name, error);
+            }
         }
+        Err(error) => unread(rt, name, error),
+    }
+}
+
+// The same for a program that takes no argument; `input` is what comes on standard input.
+pub fn run_alone<F: FnOnce(&[u8]) -> io::Result<()>>(
+    rt: HostRuntime,
+    name: &[u8],
+    input: &[u8],
+    buf: &mut [u8],
+    run: F,
+)
+    requires { F.IsAlwaysCallable run }
+{
+    if argument_count(rt) == 1 {
+        run_on_input(rt, name, buf, run);
+    } else {
+        no_argument(rt, name, input);
     }
 }
 
@@ -101,16 +131,17 @@ pub fn argument(rt: HostRuntime, i: usize, buf: &mut [u8]) -> usize {
     }
 }
 
-// The place in work RAM that the first argument names; 131,072 where it names none.
-pub fn place_given(rt: HostRuntime, name: &[u8]) -> u32 {
+// The place in work RAM that the first argument names; where it names none, that is said.
+#[tactic(auto, using(dump::proofs::Under::offset_named_under))]
+pub fn place_given(rt: HostRuntime, name: &[u8]) -> Option<u32>
+    ensures { IfSome result (λ at. at < 131072) }
+{
     let mut buf = [0u8; 64];
     let n = argument(rt, 1, &mut buf);
     let word = part(&buf, 0, n);
-    match place(word) {
-        Some(at) => at,
-        None => {
-            no_place(rt, name, word);
-            131072
-        }
+    let at = place(word);
+    if at.is_none() {
+        no_place(rt, name, word);
     }
+    at
 }

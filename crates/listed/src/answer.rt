@@ -1,60 +1,55 @@
 // The line of a listed call: its numbers, then whatever differs from what was lent.
-use crate::changes::{changes, differ};
-use crate::form::{Listed, listed_of, machine_of};
+use crate::changes::{Digits, changes};
+use crate::form::{Call, Listed, machine_of};
 use crate::lay::{BANK, RECORD, lay_bank, lay_record};
-use crate::made::{Made, lend, up_to};
+use crate::made::{Made, lend};
 use append::Sheet;
 use asbytes::MACHINE_SIZE;
 use asbytes::bytes::head_bytes;
 use bench::page::page_look;
 use bus::access::{Access, Log};
-use layout::ENTRY_SIZE;
+use common::refusal::Refusal;
+use fields::part::part;
+use layout::{ENTRY_SIZE, IMAGE_SIZE};
 
 // The longest line that there is room for.
 pub const LINE: usize = 16384;
 
-// The number got; whether all stayed as it was, and the call said nothing else; the line's length.
+// Why the call was refused, if it was; whether all stayed as it was, and the call said nothing else; the line.
 #[derive(Clone, Copy)]
-pub struct Told {
-    pub number: u8,
+pub struct Told<'a> {
+    pub refusal: Option<Refusal>,
     pub still: bool,
-    pub end: usize,
-}
-
-// A byte behind a space.
-fn spaced(line: &mut Sheet<'_>, b: u8) {
-    line.push(b' ');
-    line.hex_byte(b);
+    pub line: &'a [u8],
 }
 
 // Call, number, held, edge, byte and cost, each in two digits.
-fn opening(line: &mut Sheet<'_>, kind: u8, n: [u8; 5]) {
+fn opening(line: &mut Sheet<'_>, kind: u8, m: Made) {
     line.hex_byte(kind);
-    for b in n {
-        spaced(line, b);
-    }
+    let number = m.refusal.map_or(0, Refusal::number);
+    let numbers = [number, m.held as u8, m.edge as u8, m.byte, m.cost];
+    line.hexes(b" ", &numbers);
 }
 
 // A slot that was written: its number, and where it differs from the image before.
-fn part(line: &mut Sheet<'_>, n: u8, image: &[u8], before: &[u8], after: &[u8]) {
-    if differ(before, after) {
+fn slot(line: &mut Sheet<'_>, n: u8, image: &[u8; IMAGE_SIZE], before: &[u8], after: &[u8]) {
+    if before != after {
         line.put(b" e");
         line.hex_byte(n);
-        changes(line, b'o', 2, image, after);
+        changes(line, b'o', Digits::Two, image, after);
     }
 }
 
-// The slots of the record.
 fn slots(line: &mut Sheet<'_>, s: [u8; MACHINE_SIZE], before: &[u8; RECORD], after: &[u8; RECORD]) {
     let image = head_bytes(&s);
     for n in 0..4u8 {
         let from = n as usize * ENTRY_SIZE;
-        part(
+        slot(
             line,
             n,
             &image,
-            fields::part::part(before, from, ENTRY_SIZE),
-            fields::part::part(after, from, ENTRY_SIZE),
+            part(before, from, ENTRY_SIZE),
+            part(after, from, ENTRY_SIZE),
         );
     }
 }
@@ -68,40 +63,31 @@ fn access(line: &mut Sheet<'_>, x: Access) {
     line.hex_byte(x.byte);
 }
 
-// At most eleven.
 fn accesses(line: &mut Sheet<'_>, log: Log) {
-    for i in 0..log.items.len().min(log.count as usize) {
-        access(line, log.items[i]);
+    for x in log.held() {
+        access(line, *x);
     }
 }
 
 // The page that a page look hands back.
 fn look(line: &mut Sheet<'_>, l: Listed, low: &[u8; BANK], high: &[u8; BANK]) {
-    if l.kind == 8 {
-        let low = &low[..up_to(l.low, low.len())];
-        let high = &high[..up_to(l.high, high.len())];
-        let bytes = page_look(low, high, l.word);
-        if !bytes.is_empty() {
-            line.put(b" p");
-            line.hexes(b"", bytes);
-        }
+    let Call::Page(page) = l.call else {
+        return;
+    };
+    if let Ok(bytes) = page_look(&low[..l.low.min(BANK)], &high[..l.high.min(BANK)], page) {
+        line.put(b" p");
+        line.hexes(b"", bytes);
     }
 }
 
-// All stayed where the line is bare of changes, and there is no flag, byte or cost.
-fn weighed(m: Made, bare: bool, end: usize) -> Told {
-    let n = m.numbers;
-    let silent = (n[1] == 0) & (n[2] == 0) & (n[3] == 0) & (n[4] == 0);
-    Told {
-        number: n[0],
-        still: bare & silent,
-        end: end,
-    }
-}
-
-// Makes the call, and writes its line.
-pub fn answer(head: &[u8], newest: &[u8], rom: &[u8], line: &mut [u8; LINE]) -> Told {
-    let l = listed_of(head);
+// Makes the call, and writes its line. All stayed where the line is bare of changes, and there is no flag, byte or cost.
+pub(crate) fn answer<'a>(
+    head: &[u8],
+    l: Listed,
+    newest: &[u8],
+    rom: &[u8],
+    line: &'a mut [u8; LINE],
+) -> Told<'a> {
     let s = machine_of(head);
     let mut low = [0u8; BANK];
     let mut high = [0u8; BANK];
@@ -114,15 +100,20 @@ pub fn answer(head: &[u8], newest: &[u8], rom: &[u8], line: &mut [u8; LINE]) -> 
     let entries0 = entries;
     let m = lend(s, l, &mut low, &mut high, &mut entries, rom);
     let mut line = Sheet { text: line, at: 0 };
-    opening(&mut line, l.kind, m.numbers);
+    opening(&mut line, l.kind, m);
     let bare = line.at;
-    changes(&mut line, b'm', 3, &s, &m.after);
-    changes(&mut line, b'l', 6, &low0, &low);
-    changes(&mut line, b'h', 6, &high0, &high);
+    changes(&mut line, b'm', Digits::Three, &s, &m.after);
+    changes(&mut line, b'l', Digits::Six, &low0, &low);
+    changes(&mut line, b'h', Digits::Six, &high0, &high);
     slots(&mut line, s, &entries0, &entries);
     accesses(&mut line, m.log);
     look(&mut line, l, &low, &high);
-    let still = line.at == bare;
+    let stayed = line.at == bare;
     line.push(b'\n');
-    weighed(m, still, line.at)
+    let silent = !m.held & !m.edge & (m.byte == 0) & (m.cost == 0);
+    Told {
+        refusal: m.refusal,
+        still: silent & stayed,
+        line: part(line.text, 0, line.at),
+    }
 }

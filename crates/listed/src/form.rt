@@ -19,7 +19,27 @@ pub const PATCHES: usize = FILL + 17;
 // How many bytes a listed call has.
 pub const HEAD: usize = PATCHES + 32;
 
-// The lengths lent, and the call.
+// What is called, with its numbers.
+#[derive(Clone, Copy)]
+pub enum Call {
+    Fresh { bitcycles: u16 },
+    // One master cycle.
+    Cycle { event: u8, due: bool, timer: bool },
+    // A row of a script, and for a back step the slot of the newest entry, which follows in the list.
+    Row { row: Row, newest: Option<u8> },
+    Page(u16),
+}
+
+impl Call {
+    pub fn newest(self) -> Option<u8> {
+        match self {
+            Call::Row { newest, .. } => newest,
+            _ => None,
+        }
+    }
+}
+
+// The lengths lent, and the call. A line begins with the call's kind as it came.
 #[derive(Clone, Copy)]
 pub struct Listed {
     pub record: usize,
@@ -27,21 +47,60 @@ pub struct Listed {
     pub high: usize,
     pub rom: usize,
     pub kind: u8,
-    pub first: u8,
-    pub word: u16,
-    pub last: u8,
+    pub call: Call,
+}
+
+// The call of a kind. A kind over 8 is a back step whose entry does not follow.
+fn call_of(kind: u8, first: u8, word: u16, last: u8) -> Call {
+    let alone = |row: Row| Call::Row { row, newest: None };
+    match kind {
+        0 => Call::Fresh { bitcycles: word },
+        1 => Call::Cycle {
+            event: first,
+            due: last % 2 == 1,
+            timer: 2 <= last,
+        },
+        2 => alone(Row::Read {
+            bank: first,
+            addr: word,
+        }),
+        3 => alone(Row::Write {
+            bank: first,
+            addr: word,
+            byte: last,
+        }),
+        4 => alone(Row::Pad { port: first, word }),
+        5 => alone(Row::Plug {
+            port: first,
+            on: last == 1,
+        }),
+        6 => alone(Row::Answer {
+            addr: word,
+            byte: last,
+        }),
+        7 => Call::Row {
+            row: Row::Back { count: 1 },
+            newest: Some(first),
+        },
+        8 => Call::Page(word),
+        _ => alone(Row::Back { count: 1 }),
+    }
 }
 
 pub fn listed_of(head: &[u8]) -> Listed {
+    let kind = byte(head, CALL);
     Listed {
         record: four(head, LENT) as usize,
         low: four(head, LENT + 4) as usize,
         high: four(head, LENT + 8) as usize,
         rom: four(head, LENT + 12) as usize,
-        kind: byte(head, CALL),
-        first: byte(head, CALL + 1),
-        word: two(head, CALL + 2),
-        last: byte(head, CALL + 4),
+        kind,
+        call: call_of(
+            kind,
+            byte(head, CALL + 1),
+            two(head, CALL + 2),
+            byte(head, CALL + 4),
+        ),
     }
 }
 
@@ -53,38 +112,8 @@ pub fn machine_of(head: &[u8]) -> [u8; MACHINE_SIZE] {
 
 // The machine by value, whatever its image breaks, so that the bench itself judges it.
 pub fn bench_of(bytes: &[u8]) -> Bench {
-    let e = head_bytes(bytes);
-    let m = machine_at(&e);
-    let mut b = asbytes::bytes::bench_of(bytes);
-    b.machine = m;
-    b
-}
-
-// Any call but fresh, a cycle and a page look as a row of a script.
-pub fn row_of(l: Listed) -> Row {
-    let kind = l.kind;
-    match kind {
-        2 => Row::Read {
-            bank: l.first,
-            addr: l.word,
-        },
-        3 => Row::Write {
-            bank: l.first,
-            addr: l.word,
-            byte: l.last,
-        },
-        4 => Row::Pad {
-            port: l.first,
-            word: l.word,
-        },
-        5 => Row::Plug {
-            port: l.first,
-            on: l.last == 1,
-        },
-        6 => Row::Answer {
-            addr: l.word,
-            byte: l.last,
-        },
-        _ => Row::Back { count: 1 },
+    Bench {
+        machine: machine_at(&head_bytes(bytes)),
+        ..asbytes::bytes::bench_of(bytes)
     }
 }

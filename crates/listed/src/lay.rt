@@ -1,8 +1,8 @@
 // What a listed call is lent, laid out: banks of a fill with patches, a record of bytes $EE, the start of one long ROM.
-use crate::form::{FILL, Listed, PATCHES};
+use crate::form::{FILL, HEAD, Listed, PATCHES};
 use fields::part::part;
 use fields::put;
-use fields::word::{byte, four};
+use fields::word::{byte, two};
 use layout::ENTRY_SIZE;
 use start::fill::fill_bank;
 
@@ -15,39 +15,30 @@ pub const RECORD: usize = 1024;
 
 // Every listed ROM is a start of these bytes.
 pub fn lay_rom(rom: &mut [u8; ROM]) {
-    let mut i: usize = 0;
-    while i < ROM {
-        rom[i] = (i % 251) as u8;
-        i += 1;
+    for (i, byte) in rom.iter_mut().enumerate() {
+        *byte = (i % 251) as u8;
     }
 }
 
 // One patch: place (3 bytes, the third 0 for $7E and 1 for $7F) and byte, if it is in this bank.
-fn lay_patch(bank: &mut [u8; BANK], which: u32, patch: u32) {
-    let byte = [(patch / 16777216 % 256) as u8];
-    if patch / 65536 % 256 == which {
-        put(bank, (patch % 65536) as usize, &byte);
+fn lay_patch(bank: &mut [u8], which: u8, patch: &[u8]) {
+    if byte(patch, 2) == which {
+        put(bank, two(patch, 0) as usize, &[byte(patch, 3)]);
     }
 }
 
 // The fill, of 1 to 16 bytes, over a bank, and the patches.
-pub fn lay_bank(bank: &mut [u8; BANK], which: u32, head: &[u8]) {
+pub fn lay_bank(bank: &mut [u8; BANK], which: u8, head: &[u8]) {
     fill_bank(bank, part(head, FILL + 1, byte(head, FILL) as usize));
-    lay_patch(bank, which, four(head, PATCHES));
-    lay_patch(bank, which, four(head, PATCHES + 4));
-    lay_patch(bank, which, four(head, PATCHES + 8));
-    lay_patch(bank, which, four(head, PATCHES + 12));
-    lay_patch(bank, which, four(head, PATCHES + 16));
-    lay_patch(bank, which, four(head, PATCHES + 20));
-    lay_patch(bank, which, four(head, PATCHES + 24));
-    lay_patch(bank, which, four(head, PATCHES + 28));
+    for patch in part(head, PATCHES, HEAD - PATCHES).chunks(4) {
+        lay_patch(bank, which, patch);
+    }
 }
 
 // Bytes that no entry has; a back step's entry stands in the slot that the list names.
-pub fn lay_record(record: &mut [u8], l: Listed, newest: &[u8]) {
-    let unwritten = [0xEEu8];
-    fill_bank(record, &unwritten);
-    if l.kind == 7 {
-        put(record, l.first as usize * ENTRY_SIZE, newest);
+pub fn lay_record(record: &mut [u8; RECORD], l: Listed, newest: &[u8]) {
+    record.fill(0xEE);
+    if let Some(slot) = l.call.newest() {
+        put(record, slot as usize * ENTRY_SIZE, newest);
     }
 }

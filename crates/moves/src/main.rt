@@ -7,16 +7,20 @@ mod steps;
 mod write;
 
 use fields::part::part;
-use input::complaint::{refused, say, unwritten};
-use input::{argument_count, place_given, read_bench};
+use input::complaint::{refused, say};
+use input::{BENCH, argument_count, place_given, run_on_input};
 use script::rig::Rig;
 use start::begin;
+use std::io;
 use steps::Run;
 use walk::stand::Stand;
 use write::write_script;
 
+// What `write_script` takes for every place: the number behind the last (`put_step`).
+const EVERY: u32 = 131072;
+
 // A file that cannot be run has no line.
-fn show(rt: HostRuntime, file: &[u8], only: u32) {
+fn show(rt: HostRuntime, file: &[u8], only: Option<u32>) -> io::Result<()> {
     let mut low = [0u8; 65536];
     let mut high = [0u8; 65536];
     let mut entries = [0u8; 65536];
@@ -26,7 +30,7 @@ fn show(rt: HostRuntime, file: &[u8], only: u32) {
         Ok(s) => s,
         Err(refusal) => {
             refused(rt, b"moves", 0, refusal.number());
-            return;
+            return Ok(());
         }
     };
     let mut w = Run {
@@ -47,36 +51,26 @@ fn show(rt: HostRuntime, file: &[u8], only: u32) {
         used: 0,
     };
     let script = part(file, s.script.at, s.script.size);
-    if let Err(error) = write_script(&rt, &mut w, &mut origins, script, only) {
-        unwritten(rt, b"moves: standard output", error);
-    }
+    write_script(&rt, &mut w, &mut origins, script, only.unwrap_or(EVERY))
 }
 
-fn with_place(rt: HostRuntime, only: u32) {
-    let mut file = [0u8; 65537];
-    let got = read_bench(rt, b"moves", &mut file);
-    if !got.ok {
-        return;
-    }
-    show(rt, part(&file, 0, got.n), only);
+fn with_place(rt: HostRuntime, only: Option<u32>) {
+    let mut buf = [0u8; BENCH];
+    run_on_input(rt, b"moves", &mut buf, |file| show(rt, file, only));
 }
 
 // Without an argument every access is listed.
 fn main(rt: HostRuntime) {
-    let count = argument_count(rt);
-    if count < 2 {
-        with_place(rt, 131072);
-        return;
-    }
-    if count > 2 {
-        say(
+    match argument_count(rt) {
+        0 | 1 => with_place(rt, None),
+        2 => {
+            if let Some(at) = place_given(rt, b"moves") {
+                with_place(rt, Some(at));
+            }
+        }
+        _ => say(
             rt,
             b"moves: expected at most one argument, a place in work RAM such as $7E:1234\n",
-        );
-        return;
-    }
-    let at = place_given(rt, b"moves");
-    if at < 131072 {
-        with_place(rt, at);
+        ),
     }
 }

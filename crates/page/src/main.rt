@@ -5,53 +5,50 @@ use append::Sheet;
 use bench::page::page_look;
 use dump::page::dump_page;
 use fields::part::part;
-use input::complaint::{refused, say, unwritten};
-use input::{argument_count, place_given, read_bench};
+use input::complaint::{refused, say};
+use input::{BENCH, argument_count, place_given, run_on_input};
 use printout::row::Show;
 use printout::rows::run_rows;
+use script::rig::Rig;
 use start::begin;
+use std::io;
 
 // 16 lines of 78 bytes.
-fn write_page<'a>(rt: HostRuntime, low: &'a [u8], high: &'a [u8], page: u16) {
+fn write_page<'a>(rt: HostRuntime, low: &'a [u8], high: &'a [u8], page: u16) -> io::Result<()> {
     let mut out = Sheet {
         text: &mut [0u8; 1248],
         at: 0,
     };
-    dump_page(&mut out, page, page_look(low, high, page));
-    if let Err(error) = rt.write_all(out.written()) {
-        unwritten(rt, b"page: standard output", error);
-    }
+    dump_page(&mut out, page, page_look(low, high, page).unwrap_or(&[]));
+    rt.write_all(out.written())
 }
 
 // A file that cannot be run has no page; after a refused row the page is as that row left it.
-fn show(rt: HostRuntime, file: &[u8], page: u16) {
+fn show(rt: HostRuntime, file: &[u8], page: u16) -> io::Result<()> {
     let mut low = [0u8; 65536];
     let mut high = [0u8; 65536];
     let mut entries = [0u8; 65536];
     let mut line = [0u8; 105];
-    let s = begin(file, &mut low, &mut high);
-    if s.number != 0 {
-        refused(rt, b"page", 0, s.number);
-        return;
-    }
-    let b = s.bench;
-    let rom = part(file, s.rom.at, s.rom.size);
+    let s = match begin(file, &mut low, &mut high) {
+        Ok(s) => s,
+        Err(refusal) => {
+            refused(rt, b"page", 0, refusal.number());
+            return Ok(());
+        }
+    };
+    let mut rig = Rig {
+        bench: s.bench,
+        low: &mut low,
+        high: &mut high,
+        entries: &mut entries,
+        rom: part(file, s.rom.at, s.rom.size),
+    };
     let script = part(file, s.script.at, s.script.size);
-    let e = run_rows(
-        b,
-        &mut low,
-        &mut high,
-        &mut entries,
-        rom,
-        script,
-        0,
-        Show::Nothing,
-        &mut line,
-    );
-    if e.number != 0 {
-        refused(rt, b"page", e.next, e.number);
+    let e = run_rows(&mut rig, script, 0, Show::Nothing, &mut line);
+    if let Some(refusal) = e.refusal {
+        refused(rt, b"page", e.next, refusal.number());
     }
-    write_page(rt, &low, &high, page);
+    write_page(rt, &low, &high, page)
 }
 
 fn main(rt: HostRuntime) {
@@ -62,14 +59,11 @@ fn main(rt: HostRuntime) {
         );
         return;
     }
-    let at = place_given(rt, b"page");
-    if at > 131071 {
+    let Some(at) = place_given(rt, b"page") else {
         return;
-    }
-    let mut file = [0u8; 65537];
-    let got = read_bench(rt, b"page", &mut file);
-    if !got.ok {
-        return;
-    }
-    show(rt, part(&file, 0, got.n), (at / 256) as u16);
+    };
+    let mut buf = [0u8; BENCH];
+    run_on_input(rt, b"page", &mut buf, |file| {
+        show(rt, file, (at / 256) as u16)
+    });
 }

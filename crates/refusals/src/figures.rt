@@ -1,6 +1,7 @@
 // Count and add, tried (numbers 13 and 14). A line has every figure that changed, with what it is now.
 use crate::say::{say, say_end, say_named};
 use fields::word::{byte, eight};
+use std::io;
 use tally::count::count;
 use tally::share::Share;
 use totals::folder::{Folder, add};
@@ -9,39 +10,40 @@ use totals::{Column, Figures};
 // The figures with another at a place.
 fn laid(figures: [u64; 29], place: u8, n: u64) -> [u64; 29] {
     let mut out = figures;
-    let i = place as usize;
-    if i < 29 {
-        out[i] = n;
+    if let Some(figure) = out.get_mut(place as usize) {
+        *figure = n;
     }
     out
 }
 
-// Says a figure that changed. Returns whether it did not.
-fn told(rt: HostRuntime, whose: &[u8], what: &[u8], place: usize, before: u64, after: u64) -> bool {
+// Says a figure that changed, with what it is now.
+fn tell(
+    rt: HostRuntime,
+    whose: &[u8],
+    what: &[u8],
+    place: usize,
+    before: u64,
+    after: u64,
+) -> io::Result<()> {
     if before == after {
-        return true;
+        return Ok(());
     }
-    say(rt, whose);
-    say_named(rt, what, place);
-    say_named(rt, b" is ", after as usize);
-    false
+    say(rt, whose)?;
+    say_named(rt, what, place as u64)?;
+    say_named(rt, b" is ", after)
 }
 
-fn all_told(
+fn tell_all(
     rt: HostRuntime,
     whose: &[u8],
     what: &[u8],
     before: &[u64; 29],
     after: &[u64; 29],
-) -> bool {
-    let mut same = true;
-    let mut i: usize = 0;
-    while i < 29 {
-        let here = told(rt, whose, what, i, before[i], after[i]);
-        same = same & here;
-        i += 1;
+) -> io::Result<()> {
+    for (place, (old, new)) in before.iter().zip(after).enumerate() {
+        tell(rt, whose, what, place, *old, *new)?;
     }
-    same
+    Ok(())
 }
 
 fn share(given: &[u8]) -> Share {
@@ -57,12 +59,12 @@ fn share(given: &[u8]) -> Share {
 
 // Given are one total; the share's general bytes, units, table bytes and held; the total's place, and the share's channel and state. Every
 // other total is 7.
-pub fn count_tried(rt: HostRuntime, given: &[u8]) -> bool {
+pub fn count_tried(rt: HostRuntime, given: &[u8]) -> io::Result<()> {
     let before = laid([7u64; 29], byte(given, 40), eight(given, 0));
     let mut after = before;
-    let number = count(&mut after, share(given));
-    let same = all_told(rt, b", ", b"total ", &before, &after);
-    say_end(rt, number, same)
+    let counted = count(&mut after, share(given));
+    tell_all(rt, b", ", b"total ", &before, &after)?;
+    say_end(rt, counted.err(), before == after)
 }
 
 // The column of files of which the first has one figure, and the others are at 0.
@@ -75,33 +77,31 @@ fn column(place: u8, figure: u64) -> Column {
     }
 }
 
-fn column_told(rt: HostRuntime, whose: &[u8], before: Column, after: Column) -> bool {
-    let sum = all_told(rt, whose, b"total ", &before.sum, &after.sum);
-    let most = all_told(rt, whose, b"largest ", &before.most, &after.most);
-    let file = all_told(rt, whose, b"file ", &before.file, &after.file);
-    sum & most & file
+fn tell_column(rt: HostRuntime, whose: &[u8], before: Column, after: Column) -> io::Result<()> {
+    tell_all(rt, whose, b"total ", &before.sum, &after.sum)?;
+    tell_all(rt, whose, b"largest ", &before.most, &after.most)?;
+    tell_all(rt, whose, b"file ", &before.file, &after.file)
 }
 
-fn files_told(rt: HostRuntime, before: u64, after: u64) -> bool {
-    if before == after {
-        return true;
+fn same_column(a: Column, b: Column) -> bool {
+    (a.sum == b.sum) & (a.most == b.most) & (a.file == b.file)
+}
+
+fn added(rt: HostRuntime, f: Folder, all: Figures, alive: Figures) -> io::Result<()> {
+    let made = add(f, all, alive);
+    let after = made.unwrap_or(f);
+    if f.files != after.files {
+        say_named(rt, b", files ", after.files)?;
     }
-    say_named(rt, b", files ", after as usize);
-    false
-}
-
-fn added(rt: HostRuntime, f: Folder, all: Figures, alive: Figures) -> bool {
-    let a = add(f, all, alive);
-    let after = a.folder;
-    let files = files_told(rt, f.files, after.files);
-    let both = column_told(rt, b", all ", f.all, after.all);
-    let kept = column_told(rt, b", survivors ", f.alive, after.alive);
-    say_end(rt, a.number, files & both & kept)
+    tell_column(rt, b", all ", f.all, after.all)?;
+    tell_column(rt, b", survivors ", f.alive, after.alive)?;
+    let same = same_column(f.all, after.all) & same_column(f.alive, after.alive);
+    say_end(rt, made.err(), same & (f.files == after.files))
 }
 
 // Given are how many files there are, a figure of the first of them, the same figure of the file added; the column, 1 for the survivors;
 // and the figure's place. All other figures are 0.
-pub fn add_tried(rt: HostRuntime, given: &[u8]) -> bool {
+pub fn add_tried(rt: HostRuntime, given: &[u8]) -> io::Result<()> {
     let files = eight(given, 0);
     let place = byte(given, 25);
     let old = column(place, eight(given, 8));
@@ -112,14 +112,14 @@ pub fn add_tried(rt: HostRuntime, given: &[u8]) -> bool {
     let zeros = Figures { counts: [0u64; 29] };
     if byte(given, 24) == 0 {
         let f = Folder {
-            files: files,
+            files,
             all: old,
             alive: empty,
         };
         return added(rt, f, new, zeros);
     }
     let f = Folder {
-        files: files,
+        files,
         all: empty,
         alive: old,
     };

@@ -3,10 +3,11 @@
 use crate::look::say_part;
 use crate::say::say_last;
 use benchfile::check::file_check;
-use benchfile::section::{section_look, section_number};
+use benchfile::section::section_look;
 use fields::part::part;
 use fields::put;
 use fields::word::{byte, four};
+use std::io;
 
 // The longest file, and one byte more.
 const FILE: usize = 65537;
@@ -17,18 +18,21 @@ fn built(file: &mut [u8], given: &[u8]) {
     put(file, four(given, 36) as usize, part(given, 40, 5));
 }
 
-pub fn file_tried(rt: HostRuntime, given: &[u8]) -> bool {
+pub fn file_tried(rt: HostRuntime, given: &[u8]) -> io::Result<()> {
     let mut file = [0u8; FILE];
     built(&mut file, given);
-    say_last(rt, file_check(part(&file, 0, four(given, 32) as usize)))
+    let file = part(&file, 0, four(given, 32) as usize);
+    say_last(rt, file_check(file).err())
 }
 
-fn section(rt: HostRuntime, file: &[u8], which: u8) -> bool {
-    say_part(rt, section_look(file, which)) & say_last(rt, section_number(file, which))
+fn section(rt: HostRuntime, file: &[u8], which: u8) -> io::Result<()> {
+    let looked = section_look(file, which);
+    say_part(rt, looked.unwrap_or(&[]))?;
+    say_last(rt, looked.err())
 }
 
 // Section look gives as many bytes as the contents say, and none where it is refused.
-pub fn section_tried(rt: HostRuntime, given: &[u8]) -> bool {
+pub fn section_tried(rt: HostRuntime, given: &[u8]) -> io::Result<()> {
     let mut file = [0u8; FILE];
     built(&mut file, given);
     section(

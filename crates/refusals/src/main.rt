@@ -12,73 +12,63 @@ use crate::file::{file_tried, section_tried};
 use crate::look::{fresh_tried, page_tried};
 use crate::say::{say, say_end};
 use fields::part::part;
-use input::read_all;
 use listed::answer::LINE;
 use listed::lay::{ROM, lay_rom};
 use listed::next::next;
+use std::io;
+use std::io::Read;
 
 // How many bytes are given to a try that is no listed call.
 const GIVEN: usize = 50;
 
-fn call_tried(rt: HostRuntime, rom: &[u8]) -> bool {
+// A call that does not come whole is none, and leaves all as it was.
+fn call_tried(rt: HostRuntime, rom: &[u8]) -> io::Result<()> {
     let mut line = [0u8; LINE];
-    let told = next(&mut rt.stdin(), rom, &mut line);
-    say_end(rt, told.number, told.still)
+    match next(&mut rt.stdin(), rom, &mut line) {
+        Some(told) => say_end(rt, told.refusal, told.still),
+        None => say_end(rt, None, true),
+    }
 }
 
-fn other_tried(rt: HostRuntime, kind: u8) -> bool {
+// What does not come stays 0.
+fn given(rt: HostRuntime) -> [u8; GIVEN] {
     let mut given = [0u8; GIVEN];
-    let _ = read_all(&mut rt.stdin(), &mut given);
-    match kind {
-        1 => fresh_tried(rt, &given),
-        2 => page_tried(rt, &given),
-        3 => file_tried(rt, &given),
-        4 => section_tried(rt, &given),
-        5 => count_tried(rt, &given),
-        _ => add_tried(rt, &given),
-    }
+    let _ = rt.stdin().read_exact(&mut given);
+    given
 }
 
-// The words of a try, of which there are fewer than 256.
-fn worded(rt: HostRuntime, length: u8) -> bool {
+// One try, behind its words, of which there are fewer than 256.
+fn try_one(rt: HostRuntime, rom: &[u8], kind: u8, length: u8) -> io::Result<()> {
     let mut words = [0u8; 256];
-    let n = length as usize;
-    let _ = read_all(&mut rt.stdin(), &mut words[0..n]);
-    say_first(rt, &words, n)
-}
-
-fn say_first(rt: HostRuntime, words: &[u8; 256], n: usize) -> bool {
-    say(rt, part(words, 0, n))
-}
-
-// One try. Says whether to go on.
-fn one(rt: HostRuntime, rom: &[u8]) -> bool {
-    let mut start = [0u8; 2];
-    if read_all(&mut rt.stdin(), &mut start).unwrap_or(0) < 2 {
-        return false;
+    let _ = rt.stdin().read_exact(&mut words[..length as usize]);
+    say(rt, part(&words, 0, length as usize))?;
+    match kind {
+        0 => call_tried(rt, rom),
+        1 => fresh_tried(rt, &given(rt)),
+        2 => page_tried(rt, &given(rt)),
+        3 => file_tried(rt, &given(rt)),
+        4 => section_tried(rt, &given(rt)),
+        5 => count_tried(rt, &given(rt)),
+        _ => add_tried(rt, &given(rt)),
     }
-    worded(rt, start[1]);
-    if start[0] == 0 {
-        return call_tried(rt, rom);
-    }
-    other_tried(rt, start[0])
 }
 
 // The tries are counted up to a number that none reaches: a loop has to end.
-fn each(rt: HostRuntime, rom: &[u8]) {
+fn all(rt: HostRuntime, rom: &[u8; ROM]) -> io::Result<()> {
     for _ in 0..u64::MAX {
-        if !one(rt, rom) {
-            return;
+        let mut start = [0u8; 2];
+        if rt.stdin().read_exact(&mut start).is_err() {
+            return Ok(());
         }
+        let [kind, length] = start;
+        try_one(rt, rom, kind, length)?;
     }
+    Ok(())
 }
 
-fn all(rt: HostRuntime, rom: &[u8; ROM]) {
-    each(rt, rom);
-}
-
+// Where standard output takes no more, there is nothing more to say.
 fn main(rt: HostRuntime) {
     let mut rom = [0u8; ROM];
     lay_rom(&mut rom);
-    all(rt, &rom);
+    let _ = all(rt, &rom);
 }

@@ -1,27 +1,33 @@
 // What a line is put together from.
-pub fn say(rt: HostRuntime, text: &[u8]) -> bool {
-    rt.write_all(text).is_ok()
+use common::refusal::Refusal;
+use std::io;
+
+pub fn say(rt: HostRuntime, text: &[u8]) -> io::Result<()> {
+    rt.write_all(text)
 }
 
-pub fn say_number(rt: HostRuntime, n: u64) -> bool {
-    rt.print(n).is_ok()
+pub fn say_named(rt: HostRuntime, name: &[u8], n: u64) -> io::Result<()> {
+    say(rt, name)?;
+    rt.print(n)
 }
 
-pub fn say_named(rt: HostRuntime, name: &[u8], n: usize) -> bool {
-    say(rt, name) & say_number(rt, n as u64)
+// The number of a refusal, 0 where there is none.
+pub fn say_number(rt: HostRuntime, refusal: Option<Refusal>) -> io::Result<()> {
+    say_named(rt, b": ", refusal.map_or(0, Refusal::number) as u64)
 }
 
 // The end of a line: the number got.
-pub fn say_last(rt: HostRuntime, number: u8) -> bool {
-    say(rt, b": ") & say_number(rt, number as u64) & say(rt, b"\n")
+pub fn say_last(rt: HostRuntime, refusal: Option<Refusal>) -> io::Result<()> {
+    say_number(rt, refusal)?;
+    say(rt, b"\n")
 }
 
 // And whether all stayed as it was.
-pub fn say_end(rt: HostRuntime, number: u8, stayed: bool) -> bool {
-    say(rt, b": ");
-    say_number(rt, number as u64);
+pub fn say_end(rt: HostRuntime, refusal: Option<Refusal>, stayed: bool) -> io::Result<()> {
+    say_number(rt, refusal)?;
     if stayed {
-        return say(rt, b", all as it was\n");
+        say(rt, b", all as it was\n")
+    } else {
+        say(rt, b", changed\n")
     }
-    say(rt, b", changed\n")
 }

@@ -2,34 +2,40 @@
 #![tactic(auto)]
 
 use append::Sheet;
-use fields::part::part;
 use fields::word::four;
-use input::complaint::{fail, say, unwritten};
-use input::read_all;
+use input::complaint::{fail, say, untaken};
+use input::{BENCH, read_all};
 use printout::output::write_trace;
 use std::io;
 
-fn cut_short(rt: HostRuntime) -> bool {
-    say(rt, b"the list is cut short\n");
-    false
+// Why the list is not replayed to its end.
+enum Stop {
+    CutShort,
+    Unread(io::Error),
+    Untaken(io::Error),
 }
 
-fn unread(rt: HostRuntime, error: io::Error) -> bool {
-    fail(rt, b"standard input", error);
-    false
+fn complain(rt: HostRuntime, stop: Stop) {
+    match stop {
+        Stop::CutShort => say(rt, b"the list is cut short\n"),
+        Stop::Unread(error) => fail(rt, b"standard input", error),
+        Stop::Untaken(error) => untaken(rt, b"standard output", error),
+    }
 }
 
-// The next file of the list; false where it does not come whole.
-fn read_file(rt: HostRuntime, file: &mut [u8], size: usize) -> bool {
+// The next file of the list, which has to come whole.
+fn read_file(rt: HostRuntime, file: &mut [u8], size: usize) -> Result<&[u8], Stop> {
     if file.len() < size {
-        return cut_short(rt);
+        return Err(Stop::CutShort);
     }
-    match read_all(&mut rt.stdin(), &mut file[..size]) {
-        Ok(n) => (n == size) || cut_short(rt),
-        Err(error) => unread(rt, error),
+    let n = read_all(&mut rt.stdin(), &mut file[..size]).map_err(Stop::Unread)?;
+    if n < size {
+        return Err(Stop::CutShort);
     }
+    Ok(&file[..size])
 }
 
+// Its header and its lines.
 fn write_file(rt: HostRuntime, number: u64, file: &[u8]) -> io::Result<()> {
     let mut head = Sheet {
         text: &mut [0u8; 32],
@@ -42,36 +48,34 @@ fn write_file(rt: HostRuntime, number: u64, file: &[u8]) -> io::Result<()> {
     write_trace(&rt, file)
 }
 
-// Its header and its lines; false where it could not be read or written.
-fn replay_file(rt: HostRuntime, number: u64, size: usize) -> bool {
-    let mut file = [0u8; 65537];
-    if !read_file(rt, &mut file, size) {
-        return false;
+// One file of the list; false at its end.
+fn replay_one(rt: HostRuntime, number: u64) -> Result<bool, Stop> {
+    let mut size = [0u8; 4];
+    let n = read_all(&mut rt.stdin(), &mut size).map_err(Stop::Unread)?;
+    if n == 0 {
+        return Ok(false);
     }
-    match write_file(rt, number, part(&file, 0, size)) {
-        Ok(()) => true,
-        Err(error) => {
-            unwritten(rt, b"standard output", error);
-            false
-        }
+    if n < 4 {
+        return Err(Stop::CutShort);
     }
+    let mut buf = [0u8; BENCH];
+    let file = read_file(rt, &mut buf, four(&size, 0) as usize)?;
+    write_file(rt, number, file).map_err(Stop::Untaken)?;
+    Ok(true)
 }
 
-// One file of the list; false at its end, or where it stops.
-fn replay_one(rt: HostRuntime, number: u64) -> bool {
-    let mut size = [0u8; 4];
-    match read_all(&mut rt.stdin(), &mut size) {
-        Ok(0) => false,
-        Ok(4) => replay_file(rt, number, four(&size, 0) as usize),
-        Ok(_) => cut_short(rt),
-        Err(error) => unread(rt, error),
+// The files are counted up to a number that none reaches: a loop has to end.
+fn replay(rt: HostRuntime) -> Result<(), Stop> {
+    for number in 1..u64::MAX {
+        if !replay_one(rt, number)? {
+            return Ok(());
+        }
     }
+    Ok(())
 }
 
 fn main(rt: HostRuntime) {
-    for number in 1..u64::MAX {
-        if !replay_one(rt, number) {
-            return;
-        }
+    if let Err(stop) = replay(rt) {
+        complain(rt, stop);
     }
 }

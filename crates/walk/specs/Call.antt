@@ -3,7 +3,7 @@ use Rattle.std.specs.Prelude.{ℕ, Bool, true, false, List}
 use Rattle.bench.specs.Calls.{Desk, CycleOut, cycle_call, PlainOut, back_call}
 use Rattle.benchfile.specs.declared.row.Row.{Row}
 use Rattle.benchfile.specs.declared.row.Row.TheVariants.{Cycles, Read, Write, Pad, Plug, Answer as Reply, Back, Broken}
-use Rattle.bus.specs.{Access.no_log, declared.access.Log.Log}
+use Rattle.bus.specs.{Access.no_log, Access.Log}
 use Rattle.common.specs.Refusal.{number_of}
 use Rattle.script.specs.Row.{row_run}
 use Rattle.script.specs.Run.{Running, first_of, first_flag}

@@ -24,9 +24,11 @@ pub fn ready(d: Draft) -> bool
 fn check(out: &[u8], n: usize) -> usize
     ensures { result ≡ checked out.now n }
 {
-    let file = part(out, 0, n);
-    let number = file_check(file);
-    if number == 0 { n } else { 0 }
+    if file_check(part(out, 0, n)).is_ok() {
+        n
+    } else {
+        0
+    }
 }
 
 // The bodies bound, and checked.

@@ -1,27 +1,24 @@
 // The files one after the other, to the first that cannot be read or is refused.
 ghost use Rattle.std.specs.Prelude.{◌-◌, min, ◌≡◌};
-ghost use Rattle.figures.specs.Count.{no_count};
+ghost use Rattle.figures.specs.Count.{counted, no_count};
 
 use crate::count::{Counted, count};
 use crate::progress::{clear, show, terminal};
+use common::refusal::Refusal;
 use fields::part::part;
 use input::{BENCH, argument, read_named};
 use std::fs::File;
 use totals::Figures;
 use totals::folder::{Folder, add, none};
 
-// How a file that was counted ended: its refusal, or that of a row, or 0; and that row's number, or 0.
-#[derive(Clone, Copy)]
-pub struct End {
-    pub number: u8,
-    pub row: u64,
-}
+// How a file that was counted ended.
+pub type End = Result<(), tally::file::Refused>;
 
-// The file of an argument that the folder refuses, and its refusal.
+// The file of an argument that the folder refuses, and why.
 #[derive(Clone, Copy)]
 pub struct Refused {
     pub file: u64,
-    pub number: u8,
+    pub refusal: Refusal,
 }
 
 #[derive(Clone, Copy)]
@@ -32,11 +29,10 @@ pub struct Folded {
 
 // The figures of a file that was not counted.
 fn uncounted() -> Counted
-    ensures { result ≡ no_count }
+    ensures { counted result ≡ no_count }
 {
     Counted {
-        number: 0,
-        row: 0,
+        ended: Ok(()),
         all: Figures { counts: [0; 29] },
         alive: Figures { counts: [0; 29] },
     }
@@ -71,21 +67,19 @@ pub fn count_files(rt: HostRuntime, args: usize, ends: &mut [End; 257]) -> Optio
     let mut folder = none();
     for i in 1..args {
         let c = next_file(rt, i, &mut to, of)?;
-        let a = add(folder, c.all, c.alive);
-        if a.number != 0 {
-            let refused = Some(Refused {
-                file: i as u64,
-                number: a.number,
-            });
-            return Some(Folded { folder, refused });
-        }
+        folder = match add(folder, c.all, c.alive) {
+            Ok(more) => more,
+            Err(refusal) => {
+                let refused = Some(Refused {
+                    file: i as u64,
+                    refusal,
+                });
+                return Some(Folded { folder, refused });
+            }
+        };
         if let Some(end) = ends.get_mut(i) {
-            *end = End {
-                number: c.number,
-                row: c.row as u64,
-            };
+            *end = c.ended;
         }
-        folder = a.folder;
     }
     Some(Folded {
         folder,

@@ -16,7 +16,8 @@ fn write_file(rt: HostRuntime, i: usize, end: End) -> io::Result<()> {
     };
     let n = argument(rt, i, &mut name);
     let name = part(&name, 0, n);
-    put_file(&mut out, i as u64, end.number, end.row, name);
+    let (number, row) = end.map_or_else(|r| (r.refusal.number(), r.row as u64), |_| (0, 0));
+    put_file(&mut out, i as u64, number, row, name);
     rt.write_all(out.written())
 }
 

@@ -16,14 +16,14 @@ fn write(rt: HostRuntime, c: Folded, ends: &[End; 257]) -> io::Result<()> {
     write_files(rt, c.folder.files, ends)?;
     write_table(rt, c.folder)?;
     if let Some(r) = c.refused {
-        file_refused(rt, b"figures", r.file, r.number);
+        file_refused(rt, b"figures", r.file, r.refusal.number());
     }
     Ok(())
 }
 
 // Nothing is written before every file is counted, so that a file that cannot be read leaves standard output empty.
 fn main(rt: HostRuntime) {
-    let mut ends = [End { number: 0, row: 0 }; 257];
+    let mut ends: [End; 257] = [Ok(()); 257];
     if let Some(c) = count_files(rt, argument_count(rt), &mut ends) {
         if let Err(error) = write(rt, c, &ends) {
             unwritten(rt, b"figures", error);

@@ -4,4 +4,4 @@ use Rattle.figures.proofs.count.count.Goals as goal
 
 pub returns : goal.returns
 unfolding count_of
-returns c = ap told c.count_file-r.ensures
+returns c = ap told c.count_file-ended.ensures

@@ -8,64 +8,46 @@ use state::Machine;
 pub fn with_io(m: Machine, io: Io) -> Machine
     ensures { result ≡ with_io m io }
 {
-    let mut o = m;
-    o.io = io;
-    o
+    Machine { io, ..m }
 }
 
 // The word without its low four bits; the port's buttons follow in the next cycle.
+#[tactic(auto, unfolding(crate::specs::Host::pad_set))]
 pub fn set_pad(m: Machine, port: u8, word: u16) -> Machine
     ensures { result ≡ pad_set m port word }
 {
-    let mut o = m;
-    let w = word & !0x000F;
+    let mut next = m;
     if port == 0 {
-        o.board.pad1 = w;
-        return o;
+        next.board.pad1 = word & !0x000F;
+    } else {
+        next.board.pad2 = word & !0x000F;
     }
-    o.board.pad2 = w;
-    o
+    next
 }
 
 // The connected flag alone.
+#[tactic(auto, unfolding(crate::specs::Host::plug_set))]
 pub fn set_plug(m: Machine, port: u8, on: bool) -> Machine
     ensures { result ≡ plug_set m port on }
 {
-    let mut io = m.io;
-    let mut pads = io.pads;
+    let mut next = m;
     if port == 0 {
-        let mut p = pads.port1;
-        p.connected = on;
-        pads.port1 = p;
-        io.pads = pads;
-        return with_io(m, io);
+        next.io.pads.port1.connected = on;
+    } else {
+        next.io.pads.port2.connected = on;
     }
-    let mut p = pads.port2;
-    p.connected = on;
-    pads.port2 = p;
-    io.pads = pads;
-    with_io(m, io)
+    next
 }
 
 // $2134-$213F are the PPU's twelve, $2140-$2143 the APU's four; elsewhere nothing changes.
 pub fn set_answer(m: Machine, addr: u16, byte: u8) -> Machine
     ensures { result ≡ answer_set m addr byte }
 {
-    let mut io = m.io;
-    let mut ports = io.ports;
+    let mut next = m;
     match addr {
-        0x2134..0x2140 => {
-            let i = (addr - 0x2134) as usize;
-            ports.ppu[i] = byte;
-            io.ports = ports;
-            with_io(m, io)
-        }
-        0x2140..0x2144 => {
-            let i = (addr - 0x2140) as usize;
-            ports.apu[i] = byte;
-            io.ports = ports;
-            with_io(m, io)
-        }
-        _ => m,
+        0x2134..0x2140 => next.io.ports.ppu[(addr - 0x2134) as usize] = byte,
+        0x2140..0x2144 => next.io.ports.apu[(addr - 0x2140) as usize] = byte,
+        _ => (),
     }
+    next
 }

@@ -101,7 +101,7 @@ pub fn read(
     };
     let byte = bus.read(SnesAddress { bank, addr });
     let core = bus.core;
-    let sum = ram.sum_after(b.sum, core.olds);
+    let sum = bus.ram.sum_after(b.sum, core.olds);
     let bench = note(b, entries, with_io(b.machine, core.io), core.olds, sum);
     Ok(ReadAnswer {
         bench,
@@ -133,7 +133,7 @@ pub fn write(
     };
     bus.write(SnesAddress { bank, addr }, byte);
     let core = bus.core;
-    let sum = ram.sum_after(b.sum, core.olds);
+    let sum = bus.ram.sum_after(b.sum, core.olds);
     let bench = note(b, entries, with_io(b.machine, core.io), core.olds, sum);
     Ok(WriteAnswer {
         bench,

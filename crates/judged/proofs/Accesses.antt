@@ -5,9 +5,8 @@ use mathlib.Core.List.{List, []}
 use mathlib.Core.Path.{◌≡◌, refl, ap, ◌∙◌}
 use native.Mathlib.Omega.{arith}
 use lib.ListN.{replicate}
-use Rattle.bench.specs.Calls.{Desk, desk, lent_of, event_of, CycleOut, cycle_out, cycle_call}
+use Rattle.bench.specs.Calls.{Desk, desk, lent_of, event_of, CycleOut, cycle_call}
 use Rattle.ring.specs.{Refusal.lent_number, Slots.bench}
-use Rattle.bench.specs.declared.operate.CycleAnswer.{CycleAnswer}
 use Rattle.bus.specs.Access.{push_access, opened, io_written, register_read}
 use Rattle.bus.specs.{Route.system_route, Route.route_of, World.read_at, World.write_at}
 use Rattle.bus.specs.View.{channel_of, with_channel, mdmaen_of, with_mdmaen, hdmaen_of}
@@ -45,8 +44,8 @@ two : (l h : List ℕ) → (cycled [] moving l h (event_of 0) false false).after
 unfolding moving power_on cycled updated start_pending due_of acted act_by armed mdmaen_of hdmaen_of timed settled evented pressed opened auto_step dma_step step_from transfer_byte moved trip_of step_a1t after_byte with_channel with_mdmaen channel_of read_at write_at push_access io_written register_read route_of system_route offset_of
 two l h = refl
 
-pub cycle_two_accesses : (l h e : List ℕ) → Sizes l h e → {r : CycleAnswer} {l' h' e' : List ℕ} → cycle_out r l' h' e' ≡ cycle_call [] (busy l h e) 0 false false
-    → r.log.count ≡ 2
+pub cycle_two_accesses : (l h e : List ℕ) → Sizes l h e → {o : CycleOut} → o ≡ cycle_call [] (busy l h e) 0 false false
+    → o.log.count ≡ 2
 unfolding lent_number moving
 cycle_two_accesses l h e s k =
     let lent : lent_of (busy l h e) 0 ≡ 0 = rw (s.low, s.high, s.entries, moving-ok) in

@@ -5,10 +5,9 @@ use mathlib.Core.List.{List, []}
 use mathlib.Core.Logic.{◌≢◌}
 use mathlib.Core.Path.{◌≡◌, refl, sym, ap, ◌∙◌}
 use native.Mathlib.Omega.{arith}
-use Rattle.bench.specs.Calls.{Desk, desk, lent_of, PlainOut, plain_out, pad_call, back_call}
+use Rattle.bench.specs.Calls.{Desk, lent_of, PlainOut, pad_call, back_call}
 use Rattle.bench.specs.Host.{pad_set}
 use Rattle.ring.specs.{Refusal.lent_number, Slots.noted}
-use Rattle.bench.specs.declared.operate.Answer.{Answer}
 use Rattle.entry.proofs.Entries.{length-written}
 use Rattle.entry.specs.Entry.{decode_at}
 use Rattle.bench.proofs.Accepted.{host_done, back-accepted}
@@ -27,7 +26,7 @@ padded-ok : machine_ok padded ≡ true
 unfolding padded pad_set machine_ok power_on_machine power_on_dma power_on
 padded-ok = refl
 
-module _ (l h e : List ℕ) (s : Sizes l h e) {r : Answer} {l' h' e' : List ℕ} (k : plain_out r l' h' e' ≡ pad_call [] (start l h e) 0 16) where
+module _ (l h e : List ℕ) (s : Sizes l h e) {o : PlainOut} (k : o ≡ pad_call [] (start l h e) 0 16) where
   abbrev after : Desk
   after = (host_done (start l h e) padded).desk
 
@@ -35,26 +34,26 @@ module _ (l h e : List ℕ) (s : Sizes l h e) {r : Answer} {l' h' e' : List ℕ}
   unfolding lent_number noted
   after-lent = rw (s.low, s.high, length-written e 0 (power_on_machine 264) no_olds ∙ s.entries, padded-ok)
 
-  is-after : desk r.bench l' h' e' ≡ after
+  is-after : o.desk ≡ after
   unfolding padded
   is-after = ap (λ (o : PlainOut). o.desk) (k ∙ start-pad l h e s 16)
 
   newest-is : decode_at after.entries 0 ≡ record { ok = true; machine = power_on_machine 264; olds = no_olds }
   newest-is = ap (λ (d : Desk). decode_at d.entries 0) (sym is-after) ∙ pad-olds l h e s 16 k
 
-  module _ {r₂ : Answer} {l₂ h₂ e₂ : List ℕ} (k₂ : plain_out r₂ l₂ h₂ e₂ ≡ back_call (desk r.bench l' h' e')) where
-    pub back-machine : r₂.bench.machine ≡ power_on_machine 264
+  module _ {o₂ : PlainOut} (k₂ : o₂ ≡ back_call o.desk) where
+    pub back-machine : o₂.desk.bench.machine ≡ power_on_machine 264
     unfolding noted
     back-machine =
         let x = k₂ ∙ ap back_call is-after ∙ back-accepted after after-lent (λ z. omega (arith, z)) (λ i. (newest-is i).ok) in
         ap (λ (o : PlainOut). o.desk.bench.machine) x ∙ (λ i. (newest-is i).machine)
 
-    pub back_not_refused : r₂.number ≡ 0
+    pub back_not_refused : o₂.number ≡ 0
     unfolding noted
     back_not_refused =
         ap (λ (o : PlainOut). o.number) (k₂ ∙ ap back_call is-after ∙ back-accepted after after-lent (λ z. omega (arith, z)) (λ i. (newest-is i).ok))
 
     -- the pad word still there
-    pub back_pad_stays : r₂.bench.machine.board.pad1 ≢ 16
+    pub back_pad_stays : o₂.desk.bench.machine.board.pad1 ≢ 16
     unfolding power_on_machine
     back_pad_stays z = omega (arith, sym (ap (λ (m : Machine). m.board.pad1) back-machine) ∙ z)

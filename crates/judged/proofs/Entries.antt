@@ -6,8 +6,8 @@ use mathlib.Core.List.{List, []}
 use mathlib.Core.Path.{◌≡◌, refl, ap, ◌∙◌}
 use native.Mathlib.Omega.{arith}
 use lib.ListN.{length, get_or}
-use Rattle.bench.specs.Calls.{Desk, write_out, write_call, world_of, plain_out, pad_call}
-use Rattle.bench.specs.{Host.with_io, Host.pad_set, declared.operate.Answer.Answer, declared.operate.WriteAnswer.WriteAnswer}
+use Rattle.bench.specs.Calls.{Desk, WriteOut, write_call, world_of, PlainOut, pad_call}
+use Rattle.bench.specs.{Host.with_io, Host.pad_set}
 use Rattle.ring.specs.Slots.{noted}
 use Rattle.bus.specs.{Access.opened, Route.route_of, Route.place_of, World.write_at}
 use Rattle.common.proofs.FillLaws.{filled_grows, filled_none}
@@ -40,8 +40,8 @@ module _ (l h e : List ℕ) (s : Sizes l h e) where
   room = rw s.entries (omega arith)
 
   -- a pad call overwrites nothing
-  pub pad-olds : (word : ℕ) {r : Answer} {l' h' e' : List ℕ} → plain_out r l' h' e' ≡ pad_call [] (start l h e) 0 word
-      → decode_at e' 0 ≡ record { ok = true; machine = power_on_machine 264; olds = no_olds }
+  pub pad-olds : (word : ℕ) {o : PlainOut} → o ≡ pad_call [] (start l h e) 0 word
+      → decode_at o.desk.entries 0 ≡ record { ok = true; machine = power_on_machine 264; olds = no_olds }
   pad-olds word k =
       let d = start l h e in
       let x = k ∙ pad-accepted [] d (start-lent s [] (omega arith)) 0 word (omega arith) in
@@ -60,8 +60,8 @@ module _ (l h e : List ℕ) (s : Sizes l h e) where
     unfolding write_at opened kept_at route_of place_of
     at_7e byte = refl
 
-    pub write-olds : (byte : ℕ) {r : WriteAnswer} {l' h' e' : List ℕ} → write_out r l' h' e' ≡ write_call [] (start l h e) 0x7E 0 byte
-        → decode_at e' 0 ≡ record { ok = true; machine = power_on_machine 264; olds = push_old no_olds old }
+    pub write-olds : (byte : ℕ) {o : WriteOut} → o ≡ write_call [] (start l h e) 0x7E 0 byte
+        → decode_at o.desk.entries 0 ≡ record { ok = true; machine = power_on_machine 264; olds = push_old no_olds old }
     write-olds byte k =
         let d = start l h e in
         let x = k ∙ write-accepted [] d (start-lent s [] (omega arith)) 0x7E 0 byte in
@@ -74,6 +74,6 @@ module _ (l h e : List ℕ) (s : Sizes l h e) where
     unfolding push_old
     one-old = refl
 
-    pub write_olds_count : (byte : ℕ) {r : WriteAnswer} {l' h' e' : List ℕ} → write_out r l' h' e' ≡ write_call [] (start l h e) 0x7E 0 byte
-        → (decode_at e' 0).olds.count ≡ 1
+    pub write_olds_count : (byte : ℕ) {o : WriteOut} → o ≡ write_call [] (start l h e) 0x7E 0 byte
+        → (decode_at o.desk.entries 0).olds.count ≡ 1
     write_olds_count byte k = ap (λ (x : Decoded). x.olds.count) (write-olds byte k) ∙ one-old

@@ -6,10 +6,9 @@ use mathlib.Core.Logic.{◌≢◌}
 use mathlib.Core.Path.{◌≡◌, refl}
 use lib.Dec.{eqb}
 use lib.ListN.{length}
-use Rattle.bench.specs.Calls.{Desk, lent_of, CycleOut, cycle_refused, cycle_call, ReadOut, read_call, WriteOut, write_call, PlainOut, Hosting, hosted, on_banks, pad_call, plug_call, answer_call, back_call, empty_bench, fresh_call}
+use Rattle.bench.specs.Calls.{Desk, lent_of, CycleOut, cycle_refused, cycle_call, ReadOut, read_call, WriteOut, write_call, PlainOut, Hosting, hosted, on_banks, pad_call, plug_call, answer_call, back_call, empty_bench, FreshOut, fresh_call}
 use Rattle.ring.specs.Refusal.{cycle_number, port_number, address_number, back_number, fresh_number}
 use Rattle.ring.specs.Slots.{before}
-use Rattle.bench.specs.declared.operate.Answer.{Answer}
 use Rattle.common.proofs.TableLaws.{pick_elim}
 use Rattle.entry.specs.Entry.{decode_at}
 use Rattle.layout.specs.Layout.{capacity}
@@ -61,5 +60,5 @@ back-leaves d =
 pub fresh-leaves : (low high : List ℕ) (room bitcycles : ℕ) → let o = fresh_call low high room bitcycles in o.number ≢ 0 → o.bench ≡ empty_bench 0 1 0
 unfolding fresh_call
 fresh-leaves low high room bitcycles =
-    pick_elim (λ (o : Answer). o.number ≢ 0 → o.bench ≡ empty_bench 0 1 0) (eqb (fresh_number (length low) (length high) room bitcycles) 0)
+    pick_elim (λ (o : FreshOut). o.number ≢ 0 → o.bench ≡ empty_bench 0 1 0) (eqb (fresh_number (length low) (length high) room bitcycles) 0)
     (λ q. absurd (q refl)) (λ q. refl)

@@ -8,11 +8,9 @@ use mathlib.Core.Path.{◌≡◌, sym, ap, ◌∙◌}
 use native.Mathlib.Omega.{arith}
 use lib.ListN.{get_or, set}
 use lib.Seq.{get_or-set_same}
-use Rattle.bench.specs.Calls.{lent_of, event_of, CycleOut, cycle_out, cycle_done, cycle_call, cost_at, ReadOut, read_out, read_done, read_call, world_of, bused, WriteOut, write_out, write_call, PlainOut, plain_out, pad_call, plug_call, answer_call}
+use Rattle.bench.specs.Calls.{lent_of, event_of, CycleOut, cycle_done, cycle_call, cost_at, ReadOut, read_done, read_call, world_of, bused, WriteOut, write_call, PlainOut, pad_call, plug_call, answer_call}
 use Rattle.bench.specs.Host.{pad_set, plug_set, answer_set}
 use Rattle.ring.specs.Slots.{noted}
-use Rattle.bench.specs.declared.{operate.Answer.Answer, operate.CycleAnswer.CycleAnswer, operate.ReadAnswer.ReadAnswer}
-use Rattle.bench.specs.declared.operate.WriteAnswer.{WriteAnswer}
 use Rattle.bus.specs.{Access.register_read, Access.opened, World.read_at, World.write_at}
 use Rattle.bus.specs.Route.{system_route, route_of, place_of}
 use Rattle.bench.proofs.Accepted.{host_done, cycle-accepted, read-accepted, write-accepted, pad-accepted, plug-accepted, answer-accepted}
@@ -54,77 +52,76 @@ module _ (l h e : List ℕ) (s : Sizes l h e) where
 
   -- ---- a core that refuses everything: each operation is accepted here
 
-  module _ {l' h' e' : List ℕ} where
-    pub cycle_not_refused : {r : CycleAnswer} → cycle_out r l' h' e' ≡ cycle_call [] (start l h e) 0 false false → r.number ≡ 0
-    cycle_not_refused k = ap (λ (o : CycleOut). o.number) (k ∙ start-cycle)
+  pub cycle_not_refused : {o : CycleOut} → o ≡ cycle_call [] (start l h e) 0 false false → o.number ≡ 0
+  cycle_not_refused k = ap (λ (o : CycleOut). o.number) (k ∙ start-cycle)
 
-    pub read_not_refused : (bank addr : ℕ) {r : ReadAnswer} → read_out r l' h' e' ≡ read_call [] (start l h e) bank addr → r.number ≡ 0
-    read_not_refused bank addr k = ap (λ (o : ReadOut). o.number) (k ∙ start-read bank addr)
+  pub read_not_refused : (bank addr : ℕ) {o : ReadOut} → o ≡ read_call [] (start l h e) bank addr → o.number ≡ 0
+  read_not_refused bank addr k = ap (λ (o : ReadOut). o.number) (k ∙ start-read bank addr)
 
-    pub write_not_refused : (bank addr byte : ℕ) {r : WriteAnswer} → write_out r l' h' e' ≡ write_call [] (start l h e) bank addr byte → r.number ≡ 0
-    write_not_refused bank addr byte k = ap (λ (o : WriteOut). o.number) (k ∙ start-write bank addr byte)
+  pub write_not_refused : (bank addr byte : ℕ) {o : WriteOut} → o ≡ write_call [] (start l h e) bank addr byte → o.number ≡ 0
+  write_not_refused bank addr byte k = ap (λ (o : WriteOut). o.number) (k ∙ start-write bank addr byte)
 
-    pub pad_not_refused : (word : ℕ) {r : Answer} → plain_out r l' h' e' ≡ pad_call [] (start l h e) 0 word → r.number ≡ 0
-    pad_not_refused word k = ap (λ (o : PlainOut). o.number) (k ∙ start-pad word)
+  pub pad_not_refused : (word : ℕ) {o : PlainOut} → o ≡ pad_call [] (start l h e) 0 word → o.number ≡ 0
+  pad_not_refused word k = ap (λ (o : PlainOut). o.number) (k ∙ start-pad word)
 
-    pub plug_not_refused : (on : Bool) {r : Answer} → plain_out r l' h' e' ≡ plug_call [] (start l h e) 0 on → r.number ≡ 0
-    plug_not_refused on k = ap (λ (o : PlainOut). o.number) (k ∙ start-plug on)
+  pub plug_not_refused : (on : Bool) {o : PlainOut} → o ≡ plug_call [] (start l h e) 0 on → o.number ≡ 0
+  plug_not_refused on k = ap (λ (o : PlainOut). o.number) (k ∙ start-plug on)
 
-    pub answer_not_refused : (byte : ℕ) {r : Answer} → plain_out r l' h' e' ≡ answer_call [] (start l h e) 0x2134 byte → r.number ≡ 0
-    answer_not_refused byte k = ap (λ (o : PlainOut). o.number) (k ∙ start-answer byte)
+  pub answer_not_refused : (byte : ℕ) {o : PlainOut} → o ≡ answer_call [] (start l h e) 0x2134 byte → o.number ≡ 0
+  answer_not_refused byte k = ap (λ (o : PlainOut). o.number) (k ∙ start-answer byte)
 
-    -- ---- operations that do nothing: each of these changes the machine or a bank
+  -- ---- operations that do nothing: each of these changes the machine or a bank
 
-    pub cycle_not_idle : {r : CycleAnswer} → cycle_out r l' h' e' ≡ cycle_call [] (start l h e) 0 false false → r.bench.machine ≢ power_on_machine 264
-    unfolding cycled noted power_on_machine
-    cycle_not_idle {r} k z =
-        let a : r.bench.machine.board.clock ≡ 1 = ap (λ (o : CycleOut). o.desk.bench.machine.board.clock) (k ∙ start-cycle) in
-        let b : r.bench.machine.board.clock ≡ 0 = ap (λ (m : Machine). m.board.clock) z in
-        absurd (omega (arith, a, b))
+  pub cycle_not_idle : {o : CycleOut} → o ≡ cycle_call [] (start l h e) 0 false false → o.desk.bench.machine ≢ power_on_machine 264
+  unfolding cycled noted power_on_machine
+  cycle_not_idle {o} k z =
+      let a : o.desk.bench.machine.board.clock ≡ 1 = ap (λ (o : CycleOut). o.desk.bench.machine.board.clock) (k ∙ start-cycle) in
+      let b : o.desk.bench.machine.board.clock ≡ 0 = ap (λ (m : Machine). m.board.clock) z in
+      absurd (omega (arith, a, b))
 
-    -- a read of $2180 steps WMADD
-    pub read_not_idle : {r : ReadAnswer} → read_out r l' h' e' ≡ read_call [] (start l h e) 0 0x2180 → r.bench.machine ≢ power_on_machine 264
-    unfolding read_at register_read route_of system_route opened noted power_on_machine power_on
-    read_not_idle {r} k z =
-        let a : r.bench.machine.io.wmadd.addr ≡ 1 = ap (λ (o : ReadOut). o.desk.bench.machine.io.wmadd.addr) (k ∙ start-read 0 0x2180) in
-        let b : r.bench.machine.io.wmadd.addr ≡ 0 = ap (λ (m : Machine). m.io.wmadd.addr) z in
-        absurd (omega (arith, a, b))
+  -- a read of $2180 steps WMADD
+  pub read_not_idle : {o : ReadOut} → o ≡ read_call [] (start l h e) 0 0x2180 → o.desk.bench.machine ≢ power_on_machine 264
+  unfolding read_at register_read route_of system_route opened noted power_on_machine power_on
+  read_not_idle {o} k z =
+      let a : o.desk.bench.machine.io.wmadd.addr ≡ 1 = ap (λ (o : ReadOut). o.desk.bench.machine.io.wmadd.addr) (k ∙ start-read 0 0x2180) in
+      let b : o.desk.bench.machine.io.wmadd.addr ≡ 0 = ap (λ (m : Machine). m.io.wmadd.addr) z in
+      absurd (omega (arith, a, b))
 
-    pub write_low : (byte : ℕ) {r : WriteAnswer} → write_out r l' h' e' ≡ write_call [] (start l h e) 0x7E 0 byte → get_or l' 0 0 ≡ byte
-    unfolding write_at route_of place_of
-    write_low byte k =
-        let a : l' ≡ set l 0 byte = ap (λ (o : WriteOut). o.desk.ram.low) (k ∙ start-write 0x7E 0 byte) in
-        ap (λ (x : List ℕ). get_or x 0 0) a ∙ get_or-set_same l 0 byte 0 (omega (arith, s.low))
+  pub write_low : (byte : ℕ) {o : WriteOut} → o ≡ write_call [] (start l h e) 0x7E 0 byte → get_or o.desk.ram.low 0 0 ≡ byte
+  unfolding write_at route_of place_of
+  write_low byte {o} k =
+      let a : o.desk.ram.low ≡ set l 0 byte = ap (λ (o : WriteOut). o.desk.ram.low) (k ∙ start-write 0x7E 0 byte) in
+      ap (λ (x : List ℕ). get_or x 0 0) a ∙ get_or-set_same l 0 byte 0 (omega (arith, s.low))
 
-    pub write_not_idle : (byte : ℕ) → get_or l 0 0 ≢ byte → {r : WriteAnswer} → write_out r l' h' e' ≡ write_call [] (start l h e) 0x7E 0 byte → l' ≢ l
-    write_not_idle byte q k z = absurd (q (ap (λ (x : List ℕ). get_or x 0 0) (sym z) ∙ write_low byte k))
+  pub write_not_idle : (byte : ℕ) → get_or l 0 0 ≢ byte → {o : WriteOut} → o ≡ write_call [] (start l h e) 0x7E 0 byte → o.desk.ram.low ≢ l
+  write_not_idle byte q k z = absurd (q (ap (λ (x : List ℕ). get_or x 0 0) (sym z) ∙ write_low byte k))
 
-    pub pad_not_idle : {r : Answer} → plain_out r l' h' e' ≡ pad_call [] (start l h e) 0 16 → r.bench.machine ≢ power_on_machine 264
-    unfolding pad_set noted power_on_machine
-    pad_not_idle {r} k z =
-        let a : r.bench.machine.board.pad1 ≡ 16 = ap (λ (o : PlainOut). o.desk.bench.machine.board.pad1) (k ∙ start-pad 16) in
-        let b : r.bench.machine.board.pad1 ≡ 0 = ap (λ (m : Machine). m.board.pad1) z in
-        absurd (omega (arith, a, b))
+  pub pad_not_idle : {o : PlainOut} → o ≡ pad_call [] (start l h e) 0 16 → o.desk.bench.machine ≢ power_on_machine 264
+  unfolding pad_set noted power_on_machine
+  pad_not_idle {o} k z =
+      let a : o.desk.bench.machine.board.pad1 ≡ 16 = ap (λ (o : PlainOut). o.desk.bench.machine.board.pad1) (k ∙ start-pad 16) in
+      let b : o.desk.bench.machine.board.pad1 ≡ 0 = ap (λ (m : Machine). m.board.pad1) z in
+      absurd (omega (arith, a, b))
 
-    pub plug_not_idle : {r : Answer} → plain_out r l' h' e' ≡ plug_call [] (start l h e) 0 false → r.bench.machine ≢ power_on_machine 264
-    unfolding plug_set noted power_on_machine power_on
-    plug_not_idle {r} k z =
-        let a : r.bench.machine.io.pads.port1.connected ≡ false = ap (λ (o : PlainOut). o.desk.bench.machine.io.pads.port1.connected) (k ∙ start-plug false) in
-        let b : r.bench.machine.io.pads.port1.connected ≡ true = ap (λ (m : Machine). m.io.pads.port1.connected) z in
-        true-false (sym b ∙ a)
+  pub plug_not_idle : {o : PlainOut} → o ≡ plug_call [] (start l h e) 0 false → o.desk.bench.machine ≢ power_on_machine 264
+  unfolding plug_set noted power_on_machine power_on
+  plug_not_idle {o} k z =
+      let a : o.desk.bench.machine.io.pads.port1.connected ≡ false = ap (λ (o : PlainOut). o.desk.bench.machine.io.pads.port1.connected) (k ∙ start-plug false) in
+      let b : o.desk.bench.machine.io.pads.port1.connected ≡ true = ap (λ (m : Machine). m.io.pads.port1.connected) z in
+      true-false (sym b ∙ a)
 
-    pub answer_not_idle : {r : Answer} → plain_out r l' h' e' ≡ answer_call [] (start l h e) 0x2134 1 → r.bench.machine ≢ power_on_machine 264
-    unfolding answer_set noted power_on_machine power_on
-    answer_not_idle {r} k z =
-        let a : get_or r.bench.machine.io.ports.ppu 0 0 ≡ 1 = ap (λ (o : PlainOut). get_or o.desk.bench.machine.io.ports.ppu 0 0) (k ∙ start-answer 1) in
-        let b : get_or r.bench.machine.io.ports.ppu 0 0 ≡ 0 = ap (λ (m : Machine). get_or m.io.ports.ppu 0 0) z in
-        absurd (omega (arith, a, b))
+  pub answer_not_idle : {o : PlainOut} → o ≡ answer_call [] (start l h e) 0x2134 1 → o.desk.bench.machine ≢ power_on_machine 264
+  unfolding answer_set noted power_on_machine power_on
+  answer_not_idle {o} k z =
+      let a : get_or o.desk.bench.machine.io.ports.ppu 0 0 ≡ 1 = ap (λ (o : PlainOut). get_or o.desk.bench.machine.io.ports.ppu 0 0) (k ∙ start-answer 1) in
+      let b : get_or o.desk.bench.machine.io.ports.ppu 0 0 ≡ 0 = ap (λ (m : Machine). get_or m.io.ports.ppu 0 0) z in
+      absurd (omega (arith, a, b))
 
-    pub read_low : {r : ReadAnswer} → read_out r l' h' e' ≡ read_call [] (start l h e) 0x7E 0 → r.byte ≡ get_or l 0 0
-    unfolding read_at register_read route_of place_of
-    read_low k = ap (λ (o : ReadOut). o.byte) (k ∙ start-read 0x7E 0)
+  pub read_low : {o : ReadOut} → o ≡ read_call [] (start l h e) 0x7E 0 → o.byte ≡ get_or l 0 0
+  unfolding read_at register_read route_of place_of
+  read_low k = ap (λ (o : ReadOut). o.byte) (k ∙ start-read 0x7E 0)
 
 -- ---- one fixed reply: two accepted reads of banks that differ in a byte have different replies
-pub read_not_fixed : (l m h e : List ℕ) → Sizes l h e → Sizes m h e → get_or l 0 0 ≢ get_or m 0 0 → {r r' : ReadAnswer} {l' h' e' l'' h'' e'' : List ℕ}
-    → read_out r l' h' e' ≡ read_call [] (start l h e) 0x7E 0 → read_out r' l'' h'' e'' ≡ read_call [] (start m h e) 0x7E 0 → r.byte ≢ r'.byte
+pub read_not_fixed : (l m h e : List ℕ) → Sizes l h e → Sizes m h e → get_or l 0 0 ≢ get_or m 0 0 → {o o' : ReadOut}
+    → o ≡ read_call [] (start l h e) 0x7E 0 → o' ≡ read_call [] (start m h e) 0x7E 0 → o.byte ≢ o'.byte
 read_not_fixed l m h e s t q k k' z = q (sym (read_low l h e s k) ∙ z ∙ read_low m h e t k')

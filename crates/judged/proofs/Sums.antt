@@ -8,9 +8,7 @@ use mathlib.Core.Path.{◌≡◌, refl, sym, ap, ◌∙◌}
 use native.Mathlib.{Decide.dec_lt, Omega.arith}
 use lib.ListN.{length, get_or}
 use borrow.Author.Tests.{lt-ltb}
-use Rattle.bench.specs.Calls.{Desk, desk, lent_of, CycleOut, cycle_out, cycle_call, ReadOut, read_out, read_call, WriteOut, write_out, write_call, PlainOut, plain_out, pad_call, plug_call, answer_call, back_call, restored, world_of, bused}
-use Rattle.bench.specs.declared.{operate.Answer.Answer, operate.CycleAnswer.CycleAnswer, operate.ReadAnswer.ReadAnswer}
-use Rattle.bench.specs.declared.operate.WriteAnswer.{WriteAnswer}
+use Rattle.bench.specs.Calls.{Desk, lent_of, CycleOut, cycle_call, ReadOut, read_call, WriteOut, write_call, PlainOut, pad_call, plug_call, answer_call, back_call, restored, world_of, bused}
 use Rattle.bus.specs.{Route.route_of, Route.place_of, World.World, World.write_at}
 use Rattle.bus.proofs.Adds.{write-recorded}
 use Rattle.common.proofs.AllLaws.{byte_fits}
@@ -33,41 +31,41 @@ use Rattle.wram.specs.{Banks.Banks, Banks.banks, Banks.poked, Olds.put_back, Cha
 abbrev Follows : Desk → ℕ → Banks → Type 0
 Follows d sum ram = sum ≡ follows d.bench.sum d.ram ram
 
-module _ (rom : List ℕ) (d : Desk) (p : lent_of d (length rom) ≡ 0) {l h e : List ℕ} where
-  pub cycle-sum : (event : ℕ) (line timer : Bool) → event ≤ 4 → d.bench.machine.board.clock < 18446744073709551615 → {r : CycleAnswer}
-      → cycle_out r l h e ≡ cycle_call rom d event line timer → Follows d r.bench.sum (banks l h)
+module _ (rom : List ℕ) (d : Desk) (p : lent_of d (length rom) ≡ 0) where
+  pub cycle-sum : (event : ℕ) (line timer : Bool) → event ≤ 4 → d.bench.machine.board.clock < 18446744073709551615 → {o : CycleOut}
+      → o ≡ cycle_call rom d event line timer → Follows d o.desk.bench.sum o.desk.ram
   unfolding noted
   cycle-sum event line timer q c k =
       let x = k ∙ cycle-accepted rom d p event line timer q c in
       ap (λ (o : CycleOut). o.desk.bench.sum) x ∙ (λ i. follows d.bench.sum d.ram (sym x i).desk.ram)
 
-  pub read-sum : (bank addr : ℕ) {r : ReadAnswer} → read_out r l h e ≡ read_call rom d bank addr → Follows d r.bench.sum (banks l h)
+  pub read-sum : (bank addr : ℕ) {o : ReadOut} → o ≡ read_call rom d bank addr → Follows d o.desk.bench.sum o.desk.ram
   unfolding noted
   read-sum bank addr k =
       let x = k ∙ read-accepted rom d p bank addr in
       ap (λ (o : ReadOut). o.desk.bench.sum) x ∙ (λ i. follows d.bench.sum d.ram (sym x i).desk.ram)
 
-  pub write-sum : (bank addr byte : ℕ) {r : WriteAnswer} → write_out r l h e ≡ write_call rom d bank addr byte → Follows d r.bench.sum (banks l h)
+  pub write-sum : (bank addr byte : ℕ) {o : WriteOut} → o ≡ write_call rom d bank addr byte → Follows d o.desk.bench.sum o.desk.ram
   unfolding noted
   write-sum bank addr byte k =
       let x = k ∙ write-accepted rom d p bank addr byte in
       ap (λ (o : WriteOut). o.desk.bench.sum) x ∙ (λ i. follows d.bench.sum d.ram (sym x i).desk.ram)
 
   -- pad, plug and port answer leave it
-  pub pad-sum : (port word : ℕ) → port ≤ 1 → {r : Answer} → plain_out r l h e ≡ pad_call rom d port word → r.bench.sum ≡ d.bench.sum
+  pub pad-sum : (port word : ℕ) → port ≤ 1 → {o : PlainOut} → o ≡ pad_call rom d port word → o.desk.bench.sum ≡ d.bench.sum
   unfolding noted
   pad-sum port word q k = ap (λ (o : PlainOut). o.desk.bench.sum) (k ∙ pad-accepted rom d p port word q)
 
-  pub plug-sum : (port : ℕ) (on : Bool) → port ≤ 1 → {r : Answer} → plain_out r l h e ≡ plug_call rom d port on → r.bench.sum ≡ d.bench.sum
+  pub plug-sum : (port : ℕ) (on : Bool) → port ≤ 1 → {o : PlainOut} → o ≡ plug_call rom d port on → o.desk.bench.sum ≡ d.bench.sum
   unfolding noted
   plug-sum port on q k = ap (λ (o : PlainOut). o.desk.bench.sum) (k ∙ plug-accepted rom d p port on q)
 
-  pub answer-sum : (addr byte : ℕ) → 0x2134 ≤ addr → addr ≤ 0x2143 → {r : Answer} → plain_out r l h e ≡ answer_call rom d addr byte → r.bench.sum ≡ d.bench.sum
+  pub answer-sum : (addr byte : ℕ) → 0x2134 ≤ addr → addr ≤ 0x2143 → {o : PlainOut} → o ≡ answer_call rom d addr byte → o.desk.bench.sum ≡ d.bench.sum
   unfolding noted
   answer-sum addr byte q s k = ap (λ (o : PlainOut). o.desk.bench.sum) (k ∙ answer-accepted rom d p addr byte q s)
 
 pub back_sum : (d : Desk) → lent_of d 0 ≡ 0 → d.bench.kept ≢ 0 → (decode_at d.entries (before (capacity d.bench.length) d.bench.slot)).ok ≡ true
-    → {r : Answer} {l h e : List ℕ} → plain_out r l h e ≡ back_call d → Follows d r.bench.sum (banks l h)
+    → {o : PlainOut} → o ≡ back_call d → Follows d o.desk.bench.sum o.desk.ram
 back_sum d p q s k =
     let x = k ∙ back-accepted d p q s in
     ap (λ (o : PlainOut). o.desk.bench.sum) x ∙ (λ i. follows d.bench.sum d.ram (sym x i).desk.ram)
@@ -115,13 +113,13 @@ module _ (old new before after : ℕ) (o : old < 256) (n : new < 256) (b : befor
       let x = after + after + (2 ^ 32 - before) in
       twice_by x (omega (arith, b)) (rw (sym z) at (turns x (omega (arith, a, b)))) m
 
-module _ (l h e : List ℕ) (s : Sizes l h e) (fl : Bytes l) (fh : Bytes h) (byte : ℕ) (fits : byte < 256) (other : get_or l 0 0 ≢ byte) {r : WriteAnswer} {l' h' e' : List ℕ}
-    (k : write_out r l' h' e' ≡ write_call [] (start l h e) 0x7E 0 byte) where
+module _ (l h e : List ℕ) (s : Sizes l h e) (fl : Bytes l) (fh : Bytes h) (byte : ℕ) (fits : byte < 256) (other : get_or l 0 0 ≢ byte) {o : WriteOut}
+    (k : o ≡ write_call [] (start l h e) 0x7E 0 byte) where
   abbrev was : Banks
   was = banks l h
 
   abbrev is : Banks
-  is = banks l' h'
+  is = o.desk.ram
 
   small : get_or l 0 0 < 256
   small = byte_fits l 0 fl
@@ -139,11 +137,11 @@ module _ (l h e : List ℕ) (s : Sizes l h e) (fl : Bytes l) (fh : Bytes h) (byt
       let sum : n ≡ ram_sum is = follow-put (ram_sum was) was (Some (Bank7E 0)) byte here refl refl by (omega arith) ∙ ap (follows (ram_sum was) was) (sym put) ∙ follow-true was is in
       moved_by (get_or l 0 0) byte (ram_sum was) (ram_sum is) small fits (sum_below was) (sum_below is) (ap (λ (x : ℕ). (x + get_or l 0 0) % 2 ^ 32) (sym sum) ∙ by)
 
-  written-sum : r.bench.sum ≡ ram_sum is
+  written-sum : o.desk.bench.sum ≡ ram_sum is
   written-sum = write-sum [] (start l h e) (start-lent s [] (omega arith)) 0x7E 0 byte k ∙ follow-true was is
 
   -- a stale sum
-  pub write_stale_sum : r.bench.sum ≢ ram_sum was
+  pub write_stale_sum : o.desk.bench.sum ≢ ram_sum was
   write_stale_sum z = other (other-sum (get_or l 0 0) byte (ram_sum was) (ram_sum is) small fits (sum_below was) (sum_below is) moved (sym written-sum ∙ z))
 
   -- ---- the back step
@@ -154,7 +152,7 @@ module _ (l h e : List ℕ) (s : Sizes l h e) (fl : Bytes l) (fh : Bytes h) (byt
   abbrev after : Desk
   after = bused (start l h e) w
 
-  is-after : desk r.bench l' h' e' ≡ after
+  is-after : o.desk ≡ after
   is-after = ap (λ (o : WriteOut). o.desk) (k ∙ start-write l h e s 0x7E 0 byte)
 
   after-lent : lent_of after 0 ≡ 0
@@ -168,13 +166,13 @@ module _ (l h e : List ℕ) (s : Sizes l h e) (fl : Bytes l) (fh : Bytes h) (byt
       ap (λ (d : Desk). decode_at d.entries 0) (sym is-after) ∙ write-olds l h e s small byte k
       ∙ (λ i. record { ok = true; machine = power_on_machine 264; olds = sym (at_7e l h e s small byte) i })
 
-  module _ {r₂ : Answer} {l₂ h₂ e₂ : List ℕ} (k₂ : plain_out r₂ l₂ h₂ e₂ ≡ back_call (desk r.bench l' h' e')) where
-    back_step : plain_out r₂ l₂ h₂ e₂ ≡ record { number = 0; desk = restored after (decode_at after.entries 0) 0 }
+  module _ {o₂ : PlainOut} (k₂ : o₂ ≡ back_call o.desk) where
+    back_step : o₂ ≡ record { number = 0; desk = restored after (decode_at after.entries 0) 0 }
     unfolding noted
     back_step = k₂ ∙ ap back_call is-after ∙ back-accepted after after-lent (λ z. omega (arith, z)) (λ i. (newest-is i).ok)
 
     -- the sum is the one before the write
-    pub back_restores_sum : r₂.bench.sum ≡ ram_sum was
+    pub back_restores_sum : o₂.desk.bench.sum ≡ ram_sum was
     unfolding noted
     back_restores_sum =
         let undone = (write-recorded (power_on_machine 264).io l h 0x7E 0 byte).back in
@@ -183,7 +181,7 @@ module _ (l h e : List ℕ) (s : Sizes l h e) (fl : Bytes l) (fh : Bytes h) (byt
         ∙ follow-true w.ram was
 
     -- one that adds instead of taking away
-    pub back-adds : r₂.bench.sum ≢ follows r.bench.sum was is
+    pub back-adds : o₂.desk.bench.sum ≢ follows o.desk.bench.sum was is
     unfolding follows
     back-adds z =
         other

@@ -18,8 +18,9 @@ use Rattle.listing.specs.{Cycle.cycle_text, Line.access_text}
 use Rattle.listing.specs.Event.{back_text, refused_text, end_text}
 use Rattle.state.specs.declared.Machine.{Machine}
 use Rattle.touch.specs.{Reach.reach_of, declared.reach.Reach.Reach, declared.who.Who.TheVariants.Cpu}
-use Rattle.walk.specs.{declared.call.Answer.Answer, declared.stand.Stand.Stand}
-use Rattle.moves.specs.Steps.{Running, keeping, stepped, steps}
+use Rattle.walk.specs.{Step.Stepping, Step.step_of, Call.Answered, declared.stand.Stand.Stand}
+use Rattle.moves.specs.Origin.{origin_of, noted}
+use Rattle.moves.specs.Steps.{Running, keeping, listed, stepped, steps}
 use Rattle.moves.specs.declared.steps.Run.{Run}
 use Rattle.moves.specs.Text.{access, cpu_text, returned_text, step_text}
 
@@ -49,7 +50,7 @@ module _ (s : Sheet) (row clock number done count origin : ℕ) where
 abbrev pub others : List ℕ
 others = 3 ∷ 4 ∷ 5 ∷ 7 ∷ []
 
-module _ (s : Sheet) (row only : ℕ) (m : Machine) (o : Answer) (x : Stand) (clock origin : ℕ) where
+module _ (s : Sheet) (row only : ℕ) (m : Machine) (o : Answered) (x : Stand) (clock origin : ℕ) where
   pub lines-cycle : {t u : Sheet} {says : Row} {count event : ℕ} {due timer : Bool} → says ≡ Cycles count event due timer
       → t ≡ puts s (cycle_text row only m o.log o.edge) → u ≡ puts t (end_text row clock only o.number x.held x.done count)
       → u ≡ puts s (step_text row only m says o x clock origin)
@@ -91,3 +92,32 @@ pub steps_more : {rom lent : List ℕ} (script : List ℕ) (only i : ℕ) (t : R
     → v ≡ stepped lent script only u → v ≡ steps rom script only (i + 1) t
 unfolding steps
 steps_more script only i t h r k = rw (add-one i) cc
+
+-- a call with its lines
+pub list_joined : (rom script : List ℕ) (only row : ℕ) (w : Running) {s : Stepping} {here origin : ℕ} {origins : List ℕ} {u : Sheet} → s ≡ step_of rom script w.stand w.desk
+    → here ≡ origin_of row w.stand.done
+    → origins ≡ noted w.origins w.desk.bench.slot here (eqb s.made.answer.number 0 && not s.made.answer.back)
+    → origin ≡ get_or origins s.made.desk.bench.slot 0
+    → u ≡ puts w.sheet (step_text row only w.desk.bench.machine s.says s.made.answer s.stand s.made.desk.bench.machine.board.clock origin)
+    → ◌≡◌ {A = Running} (record { desk = s.made.desk; origins = origins; stand = s.next; number = s.made.answer.number; sheet = u }) (listed rom script only row w)
+unfolding listed
+list_joined rom script only row w a b c d e = cc
+
+module _ (rom script : List ℕ) (only : ℕ) (w : Running) where
+  pub step_none : leb (length script / 8) w.stand.next ≡ true → w ≡ stepped rom script only w
+  unfolding stepped
+  step_none a = cc
+
+  module _ (a : leb (length script / 8) w.stand.next ≡ false) where
+    pub step_refused : eqb w.number 0 ≡ false → w ≡ stepped rom script only w
+    unfolding stepped
+    step_refused b = cc
+
+    module _ (b : eqb w.number 0 ≡ true) {t : Bool} (c : t ≡ leb (w.sheet.at + 2048) (length w.sheet.text)) where
+      pub step_full : t ≡ false → w ≡ stepped rom script only w
+      unfolding stepped
+      step_full e = cc
+
+      pub step_goes : t ≡ true → {x : Running} → x ≡ listed rom script only (w.stand.next + 1) w → x ≡ stepped rom script only w
+      unfolding stepped
+      step_goes e p = cc

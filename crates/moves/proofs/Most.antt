@@ -17,12 +17,12 @@ use Rattle.listing.specs.Event.{refused_text}
 use Rattle.state.specs.declared.Machine.{Machine}
 use Rattle.touch.specs.Reach.{reach_of}
 use Rattle.touch.specs.declared.who.Who.TheVariants.{Cpu}
-use Rattle.walk.specs.{Step.step_of, declared.call.Answer.Answer, declared.stand.Stand.Stand}
+use Rattle.walk.specs.{Step.step_of, Call.Answered, declared.stand.Stand.Stand}
 use Rattle.moves.specs.Steps.{Running, origins_by, lines_by, listed}
 use Rattle.moves.specs.Text.{cpu_text, returned_text, step_text}
 use Rattle.listing.proofs.Lengths.{Within, access-most, cycle-most, end-most, back-most, refused-most}
 
-pub step-most : (row only : ℕ) (m : Machine) (says : Row) (o : Answer) (s : Stand) (clock origin : ℕ) → Within 2048 (step_text row only m says o s clock origin)
+pub step-most : (row only : ℕ) (m : Machine) (says : Row) (o : Answered) (s : Stand) (clock origin : ℕ) → Within 2048 (step_text row only m says o s clock origin)
 unfolding step_text cpu_text returned_text
 step-most row only m says o s clock origin = go says
   where

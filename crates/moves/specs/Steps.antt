@@ -3,6 +3,7 @@ use Rattle.std.specs.Prelude.{ℕ, zero, suc, ◌+◌, ◌/◌, ◌&&◌, not, L
 use Rattle.common.specs.Pick.{pick}
 use Rattle.append.specs.Sheet.{Sheet, sheet, puts}
 use Rattle.bench.specs.Calls.{Desk}
+use Rattle.common.specs.Refusal.{number_of}
 use Rattle.script.specs.Rig.{desk_of, holding}
 use Rattle.walk.specs.Step.{Stepping, step_of}
 use Rattle.walk.specs.declared.stand.Stand.{Stand}
@@ -19,7 +20,7 @@ pub record Running : Type 0 where
 
 -- the same, of what the code has
 abbrev pub running : Run → List ℕ → Running
-running w o = record { desk = desk_of w.rig; origins = o; stand = w.stand; number = w.number; sheet = sheet w.out.now w.used }
+running w o = record { desk = desk_of w.rig; origins = o; stand = w.stand; number = number_of w.refusal; sheet = sheet w.out.now w.used }
 
 -- the same slices lent, with what another has in them
 abbrev pub keeping : Run → Run → Run

@@ -10,7 +10,7 @@ use Rattle.listing.specs.Event.{back_text, refused_text, end_text}
 use Rattle.state.specs.declared.Machine.{Machine}
 use Rattle.touch.specs.Reach.{reach_of}
 use Rattle.touch.specs.declared.who.Who.TheVariants.{Cpu}
-use Rattle.walk.specs.declared.{call.Answer.Answer, stand.Stand.Stand}
+use Rattle.walk.specs.{Call.Answered, declared.stand.Stand.Stand}
 
 -- by its fields
 abbrev pub access : Bool → ℕ → ℕ → ℕ → Access
@@ -28,7 +28,7 @@ returned_text row clock number done count origin =
     pick (eqb number 0 && ltb done count) [] (back_text row clock done count origin ++ refused_text row clock number)
 
 -- by the row's kind: the machine before, the answer, where the script stands with the call counted, the clock after
-unfoldable pub step_text : ℕ → ℕ → Machine → Row → Answer → Stand → ℕ → ℕ → List ℕ
+unfoldable pub step_text : ℕ → ℕ → Machine → Row → Answered → Stand → ℕ → ℕ → List ℕ
 step_text row only m (Cycles count event due timer) o s clock origin =
     cycle_text row only m o.log o.edge ++ end_text row clock only o.number s.held s.done count
 step_text row only m (Read bank addr) o s clock origin = cpu_text row only m (access false bank addr (o.byte % 256)) o.number

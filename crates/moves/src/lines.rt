@@ -3,6 +3,7 @@
 
 ghost use Rattle.std.specs.Prelude.{◌≡◌};
 ghost use Rattle.append.specs.Lent.{putting};
+ghost use Rattle.walk.specs.Call.{answered};
 ghost use Rattle.moves.specs.Text.{cpu_text, returned_text, step_text};
 
 use append::Sheet;
@@ -11,6 +12,7 @@ use bus::access::Access;
 use listing::cycle::put_cycle;
 use listing::event::{put_back, put_end, put_refused};
 use listing::line::{Line, put_access};
+use script::repeat::number_of;
 use state::Machine;
 use touch::reach::reached;
 use touch::who::Who;
@@ -74,9 +76,9 @@ pub fn put_step(
     clock: u64,
     origin: u32,
 )
-    ensures { out.new ≡ putting out.old (step_text row only before says answer stand clock origin) }
+    ensures { out.new ≡ putting out.old (step_text row only before says (answered answer) stand clock origin) }
 {
-    let number = answer.number;
+    let number = number_of(answer.refusal);
     match says {
         Row::Cycles { count, .. } => {
             put_cycle(out, row, only, before, answer.log, answer.edge);

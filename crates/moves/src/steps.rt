@@ -4,23 +4,23 @@ ghost use Rattle.moves.specs.Steps.{running, keeping, listed, stepped, steps};
 
 use crate::lines::put_step;
 use crate::origin::{note, origin_at, origin_of};
-use append::has_room;
+use append::{Sheet, has_room};
+use common::refusal::Refusal;
 use script::rig::Rig;
 use walk::stand::Stand;
 use walk::step::next_call;
 
-// What the calls go on, where the script stands, the refusal of the last call or 0, and the buffer with how many of its bytes are text.
+// What the calls go on, where the script stands, the refusal of the last call, if it was refused, and the buffer with how many of its bytes are text.
 #[derive(Drop)]
 pub struct Run<'a> {
     pub rig: Rig<'a>,
     pub stand: Stand,
-    pub number: u8,
+    pub refusal: Option<Refusal>,
     pub out: &'a mut [u8],
     pub used: usize,
 }
 
 // The next call, of the row of that number. A back step leaves the slot of the operation that it took back as the next one.
-#[tactic(auto, unfolding(crate::specs::Steps::listed))]
 fn list_call(w: &mut Run<'_>, origins: &mut [u32], script: &[u8], only: u32, row: usize)
     ensures same { w.new ≡ keeping w.old w.new }
     ensures value { running w.new origins.new ≡ listed w.old.rig.rom.now script.now only row (running w.old origins.old) }
@@ -29,20 +29,29 @@ fn list_call(w: &mut Run<'_>, origins: &mut [u32], script: &[u8], only: u32, row
     let stand = w.stand;
     let s = next_call(&mut w.rig, script, stand);
     let here = origin_of(row, stand.done);
-    note(origins, b.slot, here, (s.answer.number == 0) & !s.answer.back);
+    note(
+        origins,
+        b.slot,
+        here,
+        s.answer.refusal.is_none() & !s.answer.back,
+    );
     let after = w.rig.bench;
     let origin = origin_at(origins, after.slot);
     let clock = after.machine.board.clock;
     let used = w.used;
-    w.used = put_step(
-        w.out, used, row as u64, only, b.machine, s.says, s.answer, s.stand, clock, origin,
+    let mut text = Sheet {
+        text: w.out,
+        at: used,
+    };
+    put_step(
+        &mut text, row as u64, only, b.machine, s.says, s.answer, s.stand, clock, origin,
     );
+    w.used = text.at;
     w.stand = s.next;
-    w.number = s.answer.number;
+    w.refusal = s.answer.refusal;
 }
 
 // One step more, unless there is none, a call was refused, or its lines, of 2,048 bytes at most, might have no room.
-#[tactic(auto, unfolding(crate::specs::Steps::stepped))]
 fn step(w: &mut Run<'_>, origins: &mut [u32], script: &[u8], only: u32)
     ensures same { w.new ≡ keeping w.old w.new }
     ensures value { running w.new origins.new ≡ stepped w.old.rig.rom.now script.now only (running w.old origins.old) }
@@ -51,7 +60,7 @@ fn step(w: &mut Run<'_>, origins: &mut [u32], script: &[u8], only: u32)
     if script.len() / 8 <= at {
         return;
     }
-    if w.number != 0 {
+    if w.refusal.is_some() {
         return;
     }
     if !has_room(w.used, 2048, w.out.len()) {

@@ -5,13 +5,19 @@ use std::io;
 
 // All steps of a script. What the buffer has goes out after so many steps or when the next might have no room. A file has fewer than 2^13 rows
 // and a row fewer than 2^16 steps, so 2^29 turns of at least one step are enough.
-pub fn write_script(rt: &impl Print, w: &mut Run<'_>, origins: &mut [u32], script: &[u8], only: u32) -> io::Result<()> {
+pub fn write_script(
+    rt: &impl Print,
+    w: &mut Run<'_>,
+    origins: &mut [u32],
+    script: &[u8],
+    only: u32,
+) -> io::Result<()> {
     for turn in 0..536870912u64 {
         run_steps(w, origins, script, only, 65536);
         let used = w.used;
         rt.write_all(part(w.out, 0, used))?;
         w.used = 0;
-        if (w.number != 0) | (script.len() / 8 <= w.stand.next) {
+        if w.refusal.is_some() | (script.len() / 8 <= w.stand.next) {
             break;
         }
     }

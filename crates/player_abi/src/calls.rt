@@ -7,14 +7,43 @@ ghost use Rattle.bench.specs.Page.{page_call};
 ghost use Rattle.ring.specs.Refusal.{look_number};
 ghost use Rattle.benchfile.specs.File.{file_check};
 ghost use Rattle.fields.specs.Patch.{patched};
-ghost use Rattle.player_abi.specs.Calls.{read_crossed, write_crossed, plain_crossed, fresh_crossed};
+ghost use Rattle.common.specs.Refusal.{result_number};
+ghost use Rattle.player_abi.specs.Calls.{left_by, left, read_crossed, write_crossed, plain_crossed, fresh_crossed};
 
 use asbytes::answer::put_answer;
-use asbytes::bytes::{bench_of, save, store};
+use asbytes::bytes::{bench_of, store};
+use bench::fresh::no_bench;
+use bench::page::page_look;
+use bus::access::no_log;
+use common::refusal::Refusal;
 use fields::put;
 use inplace::onebyte::carry;
 use inplace::rest::rest;
+use ring::Bench;
 use way::{Way, way_of};
+
+// 0 where nothing refused, else the refusal's number.
+fn number(r: Result<(), Refusal>) -> u8
+    ensures { result ≡ result_number r }
+{
+    match r {
+        Ok(()) => 0,
+        Err(x) => x.number(),
+    }
+}
+
+// What pad, plug, port answer and back share: the machine is written back where the call was accepted.
+fn write_back(machine: &mut [u8], r: Result<Bench, Refusal>) -> u8
+    ensures { left_by result machine.new ≡ left r machine.old }
+{
+    match r {
+        Ok(b) => {
+            store(machine, b);
+            0
+        }
+        Err(x) => x.number(),
+    }
+}
 
 // A machine at power-on beside these banks, which are only looked at.
 #[unsafe(no_mangle)]
@@ -27,10 +56,16 @@ pub extern "C" fn cloverwain_fresh(
 ) -> u8
     ensures { crossed result machine.new [] [] [] [] ≡ fresh_crossed machine.old (fresh_call low.now high.now length bitcycles) }
 {
-    let a = bench::fresh::fresh(low, high, length, bitcycles);
-    let b = a.bench;
-    store(machine, b);
-    a.number
+    match bench::fresh::fresh(low, high, length, bitcycles) {
+        Ok(b) => {
+            store(machine, b);
+            0
+        }
+        Err(r) => {
+            store(machine, no_bench());
+            r.number()
+        }
+    }
 }
 
 // One master cycle; `out` takes 58 bytes. Where the DMA unit only waits, is idle, or moves a byte between memory and a port, the bytes
@@ -69,13 +104,26 @@ pub extern "C" fn cloverwain_cycle(
             return 0;
         }
     }
-    let b = bench_of(machine);
-    let r = bench::operate::cycle(b, low, high, entries, rom, event, line, timer);
-    let after = r.bench;
-    let log = r.log;
-    save(machine, r.number, after);
-    put_answer(out, r.held, r.edge, log);
-    r.number
+    match bench::operate::cycle(
+        bench_of(machine),
+        low,
+        high,
+        entries,
+        rom,
+        event,
+        line,
+        timer,
+    ) {
+        Ok(r) => {
+            store(machine, r.bench);
+            put_answer(out, r.held, r.edge, r.log);
+            0
+        }
+        Err(r) => {
+            put_answer(out, false, false, no_log());
+            r.number()
+        }
+    }
 }
 
 // A byte from the bus; `out` takes byte and cost.
@@ -92,12 +140,17 @@ pub extern "C" fn cloverwain_read(
 ) -> u8
     ensures { crossed result machine.new low.new high.new entries.new out.new ≡ read_crossed machine.old out.old (read_call rom.now (desk (bench_of machine.old) low.old high.old entries.old) bank addr) }
 {
-    let b = bench_of(machine);
-    let r = bench::operate::read(b, low, high, entries, rom, bank, addr);
-    save(machine, r.number, r.bench);
-    let bytes = [r.byte, r.cost];
-    put(out, 0, &bytes);
-    r.number
+    match bench::operate::read(bench_of(machine), low, high, entries, rom, bank, addr) {
+        Ok(r) => {
+            store(machine, r.bench);
+            put(out, 0, &[r.byte, r.cost]);
+            0
+        }
+        Err(r) => {
+            put(out, 0, &[0, 0]);
+            r.number()
+        }
+    }
 }
 
 // A byte to the bus; `out` takes the cost.
@@ -115,12 +168,17 @@ pub extern "C" fn cloverwain_write(
 ) -> u8
     ensures { crossed result machine.new low.new high.new entries.new out.new ≡ write_crossed machine.old out.old (write_call rom.now (desk (bench_of machine.old) low.old high.old entries.old) bank addr byte) }
 {
-    let b = bench_of(machine);
-    let r = bench::operate::write(b, low, high, entries, rom, bank, addr, byte);
-    save(machine, r.number, r.bench);
-    let bytes = [r.cost];
-    put(out, 0, &bytes);
-    r.number
+    match bench::operate::write(bench_of(machine), low, high, entries, rom, bank, addr, byte) {
+        Ok(r) => {
+            store(machine, r.bench);
+            put(out, 0, &[r.cost]);
+            0
+        }
+        Err(r) => {
+            put(out, 0, &[0]);
+            r.number()
+        }
+    }
 }
 
 // The pad word of a controller port.
@@ -138,8 +196,7 @@ pub extern "C" fn cloverwain_pad(
 {
     let b = bench_of(machine);
     let r = bench::operate::pad(b, low, high, entries, rom, port, word);
-    save(machine, r.number, r.bench);
-    r.number
+    write_back(machine, r)
 }
 
 // A pad plugged into a controller port, or pulled.
@@ -157,8 +214,7 @@ pub extern "C" fn cloverwain_plug(
 {
     let b = bench_of(machine);
     let r = bench::operate::plug(b, low, high, entries, rom, port, on);
-    save(machine, r.number, r.bench);
-    r.number
+    write_back(machine, r)
 }
 
 // What the PPU or the APU answers at an address from now on.
@@ -176,8 +232,7 @@ pub extern "C" fn cloverwain_port_answer(
 {
     let b = bench_of(machine);
     let r = bench::operate::port_answer(b, low, high, entries, rom, addr, byte);
-    save(machine, r.number, r.bench);
-    r.number
+    write_back(machine, r)
 }
 
 // One operation taken back.
@@ -192,8 +247,7 @@ pub extern "C" fn cloverwain_back(
 {
     let b = bench_of(machine);
     let r = bench::back::back(b, low, high, entries);
-    save(machine, r.number, r.bench);
-    r.number
+    write_back(machine, r)
 }
 
 // A page of work RAM, copied into `out`, which takes 256 bytes; a refused look leaves it as it was.
@@ -206,9 +260,13 @@ pub extern "C" fn cloverwain_page<'a>(
 ) -> u8
     ensures { crossed result [] [] [] [] out.new ≡ crossed (look_number (length low.now) (length high.now) page) [] [] [] [] (patched out.old 0 (page_call low.now high.now page)) }
 {
-    let bytes = bench::page::page_look(low, high, page);
-    put(out, 0, bytes);
-    bench::page::page_number(low, high, page)
+    match page_look(low, high, page) {
+        Ok(bytes) => {
+            put(out, 0, bytes);
+            0
+        }
+        Err(r) => r.number(),
+    }
 }
 
 // 0 for a bench file, else 11.
@@ -216,5 +274,5 @@ pub extern "C" fn cloverwain_page<'a>(
 pub extern "C" fn cloverwain_file_check(file: &[u8]) -> u8
     ensures { result ≡ file_check file.now }
 {
-    benchfile::check::file_check(file)
+    number(benchfile::check::file_check(file))
 }

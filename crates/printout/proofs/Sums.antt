@@ -5,8 +5,7 @@ use mathlib.Core.Path.{◌≡◌, refl}
 use borrow.Author.Tests.{eqb-false, eq-eqb}
 use lib.Dec.{eqb}
 use lib.ListN.{length}
-use Rattle.bench.specs.Calls.{Desk, fresh_call}
-use Rattle.bench.specs.declared.operate.Answer.{Answer}
+use Rattle.bench.specs.Calls.{Desk, FreshOut, fresh_call}
 use Rattle.benchfile.specs.{File.body_of, File.file_check, Row.row_bytes, Row.row_of}
 use Rattle.common.proofs.TableLaws.{pick_case}
 use Rattle.common.specs.Pick.{pick}
@@ -36,7 +35,7 @@ lines-true rom script (suc n) i d t =
 fresh-true : (l h : List ℕ) (room bits : ℕ) → (fresh_call l h room bits).number ≡ 0 → (fresh_call l h room bits).bench.sum ≡ ram_sum (banks l h)
 unfolding fresh_call
 fresh-true l h room bits =
-    pick_case (λ (o : Answer). o.number ≡ 0 → o.bench.sum ≡ ram_sum (banks l h)) (eqb (fresh_number (length l) (length h) room bits) 0)
+    pick_case (λ (o : FreshOut). o.number ≡ 0 → o.bench.sum ≡ ram_sum (banks l h)) (eqb (fresh_number (length l) (length h) room bits) 0)
     (λ e q. refl) (λ e q. absurd (eqb-false (fresh_number (length l) (length h) room bits) 0 e q))
 
 module _ (f : List ℕ) (z : refusal_of f zeros zeros ≡ 0) where

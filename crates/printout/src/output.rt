@@ -3,6 +3,7 @@
 use crate::row::Show;
 use crate::rows::run_rows;
 use append::Sheet;
+use common::refusal::Refusal;
 use fields::part::part;
 use script::rig::Rig;
 use start::begin;
@@ -14,26 +15,34 @@ pub fn write_text(rt: &impl Print, out: &[u8], used: usize) -> io::Result<()> {
     rt.write_all(part(out, 0, used))
 }
 
-// How many rows were run, and the refusal of the last one, or 0. A file that cannot be run has no row.
+// How many rows were run, and the refusal of the last one, if it was refused. A file that cannot be run has no row.
 #[derive(Clone, Copy)]
 pub struct Written {
     pub rows: usize,
-    pub number: u8,
+    pub refusal: Option<Refusal>,
 }
 
 // All rows of a script. Each turn runs at least one, so as many turns as there are rows are enough.
-fn write_rows(rt: &impl Print, rig: &mut Rig<'_>, script: &[u8], show: Show) -> io::Result<Written> {
+fn write_rows(
+    rt: &impl Print,
+    rig: &mut Rig<'_>,
+    script: &[u8],
+    show: Show,
+) -> io::Result<Written> {
     let mut out = [0u8; 4096];
     let rows = script.len() / 8;
-    let mut w = Written { rows: 0, number: 0 };
+    let mut w = Written {
+        rows: 0,
+        refusal: None,
+    };
     for turn in 0..rows {
         let s = run_rows(rig, script, w.rows, show, &mut out);
         write_text(rt, &out, s.used)?;
         w = Written {
             rows: s.next,
-            number: s.number,
+            refusal: s.refusal,
         };
-        if (w.number != 0) | (rows <= w.rows) {
+        if w.refusal.is_some() | (rows <= w.rows) {
             break;
         }
     }
@@ -44,13 +53,15 @@ fn write_shown(rt: &impl Print, file: &[u8], show: Show) -> io::Result<Written> 
     let mut low = [0u8; 65536];
     let mut high = [0u8; 65536];
     let mut entries = [0u8; 65536];
-    let s = begin(file, &mut low, &mut high);
-    if s.number != 0 {
-        return Ok(Written {
-            rows: 0,
-            number: s.number,
-        });
-    }
+    let s = match begin(file, &mut low, &mut high) {
+        Ok(s) => s,
+        Err(refusal) => {
+            return Ok(Written {
+                rows: 0,
+                refusal: Some(refusal),
+            });
+        }
+    };
     let mut rig = Rig {
         bench: s.bench,
         low: &mut low,
@@ -62,22 +73,22 @@ fn write_shown(rt: &impl Print, file: &[u8], show: Show) -> io::Result<Written> 
 }
 
 // Document 01's line of a file that cannot be run.
-fn write_refused(rt: &impl Print, number: u8) -> io::Result<()> {
+fn write_refused(rt: &impl Print, refusal: Refusal) -> io::Result<()> {
     let mut out = Sheet {
         text: &mut [0u8; 105],
         at: 0,
     };
-    append_line(&mut out, 0, 0, number, 0, 0);
+    append_line(&mut out, 0, 0, refusal.number(), 0, 0);
     rt.write_all(out.written())
 }
 
 // All that the trace program prints for a file.
 pub fn write_trace(rt: &impl Print, file: &[u8]) -> io::Result<()> {
     let w = write_shown(rt, file, Show::Line)?;
-    if (w.rows == 0) & (w.number != 0) {
-        return write_refused(rt, w.number);
+    match w.refusal {
+        Some(refusal) if w.rows == 0 => write_refused(rt, refusal),
+        _ => Ok(()),
     }
-    Ok(())
 }
 
 // The sum of work RAM after each row.

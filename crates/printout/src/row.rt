@@ -1,12 +1,14 @@
 // A script row run on a bench, with what is shown of it.
 ghost use Rattle.std.specs.Prelude.{◌≡◌};
 ghost use Rattle.script.specs.Rig.{desk_of, holding};
-ghost use Rattle.append.specs.Sheet.{sheet, puts};
+ghost use Rattle.append.specs.Sheet.{sheet};
+ghost use Rattle.append.specs.Lent.{putting};
 ghost use Rattle.printout.specs.Row.{shown_text, shown, row_shown};
 
+use append::Sheet;
 use benchfile::row::row_of;
 use fields::word::byte;
-use script::repeat::Ran;
+use script::repeat::{Ran, number_of};
 use script::rig::Rig;
 use script::row::run_row;
 use wording::line::{append_line, append_sum};
@@ -26,9 +28,9 @@ pub struct Lined {
     pub used: usize,
 }
 
+#[tactic(auto, unfolding(crate::specs::Row::shown_text), using(append::proofs::Laws::puts_none))]
 fn put_shown(
-    out: &mut [u8],
-    used: usize,
+    out: &mut Sheet<'_>,
     show: Show,
     row: u64,
     kind: u8,
@@ -36,24 +38,36 @@ fn put_shown(
     a: u32,
     b: u32,
     sum: u32,
-) -> usize
-    ensures { sheet out.new result ≡ puts (sheet out.old used) (shown_text show row kind number a b sum) }
+)
+    ensures { out.new ≡ putting out.old (shown_text show row kind number a b sum) }
 {
     match show {
-        Show::Nothing => used,
-        Show::Line => append_line(out, used, row, kind, number, a, b),
-        Show::Sum => append_sum(out, used, row, sum),
+        Show::Nothing => (),
+        Show::Line => append_line(out, row, kind, number, a, b),
+        Show::Sum => append_sum(out, row, sum),
     }
 }
 
 // Runs the row of these 8 bytes, the `number`th of its script.
 #[tactic(auto, unfolding(crate::specs::Row::row_shown))]
-pub fn run_line(rig: &mut Rig<'_>, row: &[u8], number: u64, show: Show, out: &mut [u8], used: usize) -> Lined
+pub fn run_line(
+    rig: &mut Rig<'_>,
+    row: &[u8],
+    number: u64,
+    show: Show,
+    out: &mut [u8],
+    used: usize,
+) -> Lined
     ensures same { rig.new ≡ holding rig.old (desk_of rig.new) }
     ensures value { shown result rig.new out.new ≡ row_shown rig.old.rom.now row.now number show (desk_of rig.old) (sheet out.old used) }
 {
     let kind = byte(row, 0);
     let ran = run_row(rig, row_of(row));
-    let used = put_shown(out, used, show, number, kind, ran.number, ran.a, ran.b, rig.bench.sum);
-    Lined { ran, used }
+    let mut text = Sheet {
+        text: out,
+        at: used,
+    };
+    let refused = number_of(ran.refusal);
+    put_shown(&mut text, show, number, kind, refused, ran.a, ran.b, rig.bench.sum);
+    Lined { ran, used: text.at }
 }

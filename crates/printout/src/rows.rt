@@ -5,19 +5,19 @@ ghost use Rattle.printout.specs.Rows.{standing, start, stepped, steps};
 
 use crate::row::{Show, run_line};
 use append::has_room;
+use common::refusal::Refusal;
 use fields::part::part;
 use script::rig::Rig;
 
-// Where a script stands: the row to run next, from 0; the refusal of the last one, or 0; how many bytes of the buffer are text.
+// Where a script stands: the row to run next, from 0; the refusal of the last one, if it was refused; how many bytes of the buffer are text.
 #[derive(Clone, Copy)]
 pub struct Stand {
     pub next: usize,
-    pub number: u8,
+    pub refusal: Option<Refusal>,
     pub used: usize,
 }
 
 // One row more, unless there is none, one was refused, or its line, of 105 bytes at most, might have no room.
-#[tactic(auto, unfolding(crate::specs::Rows::stepped))]
 fn step(rig: &mut Rig<'_>, s: Stand, script: &[u8], show: Show, out: &mut [u8]) -> Stand
     ensures same { rig.new ≡ holding rig.old (desk_of rig.new) }
     ensures value { standing result rig.new out.new ≡ stepped rig.old.rom.now script.now show (standing s rig.old out.old) }
@@ -28,7 +28,7 @@ fn step(rig: &mut Rig<'_>, s: Stand, script: &[u8], show: Show, out: &mut [u8]) 
     }
     let number = at + 1;
     let row = part(script, at * 8, 8);
-    if s.number != 0 {
+    if s.refusal.is_some() {
         return s;
     }
     if !has_room(s.used, 105, out.len()) {
@@ -37,7 +37,7 @@ fn step(rig: &mut Rig<'_>, s: Stand, script: &[u8], show: Show, out: &mut [u8]) 
     let r = run_line(rig, row, number as u64, show, out, s.used);
     Stand {
         next: number,
-        number: r.ran.number,
+        refusal: r.ran.refusal,
         used: r.used,
     }
 }
@@ -50,7 +50,7 @@ pub fn run_rows(rig: &mut Rig<'_>, script: &[u8], first: usize, show: Show, out:
 {
     let mut s = Stand {
         next: first,
-        number: 0,
+        refusal: None,
         used: 0,
     };
     for i in 0..script.len() / 8 {

@@ -6,9 +6,8 @@ use mathlib.Core.Path.{◌≡◌, refl, sym, ◌∙◌}
 use borrow.Author.Tests.{eqb-true, eqb-false, ltb-false, not-false}
 use lib.Dec.{eqb, ltb}
 use lib.ListN.{length}
-use Rattle.bench.specs.Calls.{empty_bench, fresh_call}
+use Rattle.bench.specs.Calls.{empty_bench, FreshOut, fresh_call}
 use Rattle.ring.specs.Refusal.{banks_off, length_off, bits_off, fresh_number}
-use Rattle.bench.specs.declared.operate.Answer.{Answer}
 use Rattle.common.proofs.TableLaws.{pick_case}
 use Rattle.common.specs.Pick.{pick}
 use Rattle.layout.specs.Layout.{entry_size}
@@ -31,7 +30,7 @@ module _ (low high : List ℕ) (len bitcycles : ℕ) where
   pub fresh-number : (fresh_call low high len bitcycles).number ≡ refused
   unfolding fresh_call
   fresh-number =
-      pick_case (λ (r : Answer). r.number ≡ refused) (eqb refused 0) (λ e. sym (eqb-true refused 0 e)) (λ e. refl)
+      pick_case (λ (r : FreshOut). r.number ≡ refused) (eqb refused 0) (λ e. sym (eqb-true refused 0 e)) (λ e. refl)
 
   pub fresh-facts : (fresh_call low high len bitcycles).number ≡ 0 → Fresh low high len bitcycles
   unfolding fresh_call fresh_number

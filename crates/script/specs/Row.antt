@@ -1,9 +1,15 @@
 -- What the trace program prints of a row (document 01): refusal or 0, then A and B by the row's kind.
-use Rattle.std.specs.Prelude.{ℕ, List}
+use Rattle.std.specs.Prelude.{ℕ, List, Some}
 use Rattle.bench.specs.Calls.{Desk, ReadOut, read_call, WriteOut, write_call, PlainOut, pad_call, plug_call, answer_call}
 use Rattle.benchfile.specs.declared.row.Row.{Row}
 use Rattle.benchfile.specs.declared.row.Row.TheVariants.{Cycles, Read, Write, Pad, Plug, Answer, Back, Broken}
+use Rattle.common.specs.declared.refusal.Refusal.{Refusal}
+use Rattle.script.specs.declared.repeat.Ran.{Ran}
 use Rattle.script.specs.Run.{Running, cycles_run, backs_run}
+
+-- a row that its call refuses
+abbrev pub refused : Refusal → Ran
+refused x = record { refusal = Some x; a = 0; b = 0 }
 
 -- byte and cost
 abbrev pub read_ran : ReadOut → Running

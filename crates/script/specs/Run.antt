@@ -2,6 +2,7 @@
 use Rattle.std.specs.Prelude.{ℕ, zero, suc, ◌+◌, ◌%◌, ◌^◌, Bool, false, List, ◌==◌}
 use Rattle.common.specs.Pick.{pick}
 use Rattle.bench.specs.Calls.{Desk, CycleOut, cycle_call, PlainOut, back_call}
+use Rattle.common.specs.Refusal.{number_of}
 use Rattle.script.specs.{Rig.desk_of, declared.repeat.Ran.Ran, declared.rig.Rig.Rig}
 
 -- what a row has come to: the refusal or 0, its numbers A and B, and what it leaves
@@ -13,7 +14,7 @@ pub record Running : Type 0 where
 
 -- the same, of what the code returns and what it ran on
 abbrev pub ran : Ran → Rig → Running
-ran r g = record { number = r.number; a = r.a; b = r.b; desk = desk_of g }
+ran r g = record { number = number_of r.refusal; a = r.a; b = r.b; desk = desk_of g }
 
 -- a row before its first call
 abbrev pub start : Desk → Running

@@ -1,18 +1,30 @@
 // A row of several calls: cycles, or back steps. It stops at the first refusal; the calls before it stay done.
 ghost use Rattle.std.specs.Prelude.{◌≡◌};
+ghost use Rattle.common.specs.Refusal.{number_of};
 ghost use Rattle.script.specs.Rig.{desk_of, holding};
 ghost use Rattle.script.specs.Run.{ran, first_of, first_flag, plus_one, cycle_step, cycles_run, back_step, backs_run};
 
 use crate::rig::Rig;
 use bench::back::back;
 use bench::operate::cycle;
+use common::refusal::Refusal;
 
-// What a row has come to: the refusal or 0, and its two numbers A and B.
+// What a row has come to: the refusal that ended it, if one did, and its two numbers A and B.
 #[derive(Clone, Copy)]
 pub struct Ran {
-    pub number: u8,
+    pub refusal: Option<Refusal>,
     pub a: u32,
     pub b: u32,
+}
+
+// Document 01's number of a refusal, or 0.
+pub fn number_of(refusal: Option<Refusal>) -> u8
+    ensures { result ≡ number_of refusal }
+{
+    match refusal {
+        Some(r) => r.number(),
+        None => 0,
+    }
 }
 
 // Event and flags hold for the first cycle of a row.
@@ -25,31 +37,46 @@ pub fn first_of(i: u16, x: u8) -> u8
 pub fn first_flag(i: u16, x: bool) -> bool
     ensures { result ≡ first_flag i x }
 {
-    if i == 0 { x } else { false }
+    (i == 0) & x
 }
 
 // One more where a call counts.
 fn plus_one(n: u32, counts: bool) -> u32
     ensures { result ≡ plus_one n counts }
 {
-    if counts { n.wrapping_add(1) } else { n }
+    n.wrapping_add(counts as u32)
 }
 
 // One cycle of a row, unless one was refused before it.
-#[tactic(auto, unfolding(crate::specs::Run::cycle_step))]
 fn cycle_step(rig: &mut Rig<'_>, s: Ran, event: u8, line: bool, timer: bool) -> Ran
     ensures same { rig.new ≡ holding rig.old (desk_of rig.new) }
     ensures value { ran result rig.new ≡ cycle_step rig.old.rom.now event line timer (ran s rig.old) }
 {
-    if s.number != 0 {
+    if s.refusal.is_some() {
         return s;
     }
-    let r = cycle(rig.bench, rig.low, rig.high, rig.entries, rig.rom, event, line, timer);
-    rig.bench = r.bench;
-    Ran {
-        number: r.number,
-        a: plus_one(s.a, r.number == 0),
-        b: plus_one(s.b, r.held),
+    match cycle(
+        rig.bench,
+        rig.low,
+        rig.high,
+        rig.entries,
+        rig.rom,
+        event,
+        line,
+        timer,
+    ) {
+        Ok(r) => {
+            rig.bench = r.bench;
+            Ran {
+                refusal: None,
+                a: s.a.wrapping_add(1),
+                b: plus_one(s.b, r.held),
+            }
+        }
+        Err(refusal) => Ran {
+            refusal: Some(refusal),
+            ..s
+        },
     }
 }
 
@@ -57,28 +84,44 @@ pub fn run_cycles(rig: &mut Rig<'_>, count: u16, event: u8, line: bool, timer: b
     ensures same { rig.new ≡ holding rig.old (desk_of rig.new) }
     ensures value { ran result rig.new ≡ cycles_run rig.old.rom.now event line timer count (desk_of rig.old) }
 {
-    let mut s = Ran { number: 0, a: 0, b: 0 };
+    let mut s = Ran {
+        refusal: None,
+        a: 0,
+        b: 0,
+    };
     for i in 0..count {
-        s = cycle_step(rig, s, first_of(i, event), first_flag(i, line), first_flag(i, timer));
+        s = cycle_step(
+            rig,
+            s,
+            first_of(i, event),
+            first_flag(i, line),
+            first_flag(i, timer),
+        );
     }
     s
 }
 
 // One back step of a row, unless one was refused before it.
-#[tactic(auto, unfolding(crate::specs::Run::back_step))]
 fn back_step(rig: &mut Rig<'_>, s: Ran) -> Ran
     ensures same { rig.new ≡ holding rig.old (desk_of rig.new) }
     ensures value { ran result rig.new ≡ back_step (ran s rig.old) }
 {
-    if s.number != 0 {
+    if s.refusal.is_some() {
         return s;
     }
-    let r = back(rig.bench, rig.low, rig.high, rig.entries);
-    rig.bench = r.bench;
-    Ran {
-        number: r.number,
-        a: plus_one(s.a, r.number == 0),
-        b: s.b,
+    match back(rig.bench, rig.low, rig.high, rig.entries) {
+        Ok(bench) => {
+            rig.bench = bench;
+            Ran {
+                refusal: None,
+                a: s.a.wrapping_add(1),
+                b: s.b,
+            }
+        }
+        Err(refusal) => Ran {
+            refusal: Some(refusal),
+            ..s
+        },
     }
 }
 
@@ -86,7 +129,11 @@ pub fn run_backs(rig: &mut Rig<'_>, count: u16) -> Ran
     ensures same { rig.new ≡ holding rig.old (desk_of rig.new) }
     ensures value { ran result rig.new ≡ backs_run count (desk_of rig.old) }
 {
-    let mut s = Ran { number: 0, a: 0, b: 0 };
+    let mut s = Ran {
+        refusal: None,
+        a: 0,
+        b: 0,
+    };
     for i in 0..count {
         s = back_step(rig, s);
     }

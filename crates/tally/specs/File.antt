@@ -1,13 +1,13 @@
 -- The count of a bench file: one run of all calls, and one of the survivors alone, each from fresh with the trace's record.
-use Rattle.std.specs.Prelude.{ℕ, List, [], ◌∷◌, ◌==◌}
+use Rattle.std.specs.Prelude.{ℕ, List, [], ◌∷◌, ◌==◌, Result, Ok, Err}
 use Rattle.common.specs.Pick.{pick}
 use Rattle.bench.specs.Calls.{Desk, desk}
 use Rattle.fields.specs.Bytes.{part_of}
-use Rattle.start.specs.Start.{start_run}
-use Rattle.start.specs.declared.Started.{Started}
+use Rattle.start.specs.Start.{Begun, start_run}
 use Rattle.tally.specs.Alive.{rows}
 use Rattle.tally.specs.Run.{Tallying, script_tallied}
-use Rattle.tally.specs.declared.file.Ran.{Ran}
+use Rattle.common.specs.Refusal.{refusal_number}
+use Rattle.tally.specs.declared.file.Refused.{Refused}
 
 -- what a run of a file leaves: the refusal of the file or of the row that ended it, or 0; that row, or 0; what was lent
 pub record FileRun : Type 0 where
@@ -19,8 +19,18 @@ pub record FileRun : Type 0 where
   pub alive : List ℕ
   pub totals : List ℕ
 
--- the same, of what the code returns and the slices lent to it
-abbrev pub file_ran : Ran → List ℕ → List ℕ → List ℕ → List ℕ → List ℕ → FileRun
+-- the refusal of the file or of the row that ended a run, or 0; that row, or 0
+pub record Halt : Type 0 where
+  pub number : ℕ
+  pub row : ℕ
+
+-- the same, of what the code returns
+abbrev pub halt_of : Result Unit Refused → Halt
+halt_of (Ok u) = record { number = 0; row = 0 }
+halt_of (Err x) = record { number = refusal_number x.refusal; row = x.row }
+
+-- a run's halt, and the slices lent to it
+abbrev pub file_ran : Halt → List ℕ → List ℕ → List ℕ → List ℕ → List ℕ → FileRun
 file_ran r l h e alive totals =
     record { number = r.number; row = r.row; low = l; high = h; entries = e; alive = alive; totals = totals }
 
@@ -39,7 +49,7 @@ ended t =
     file_ran (record { number = t.number; row = row_by t.number t.row }) d.ram.low d.ram.high d.entries t.rows.alive t.totals
 
 -- the part of the file that its contents name
-abbrev pub script_run : List ℕ → Started → List ℕ → Tallying → Tallying
+abbrev pub script_run : List ℕ → Begun → List ℕ → Tallying → Tallying
 script_run f s limits t =
     script_tallied (part_of f s.rom.at s.rom.size) (part_of f s.script.at s.script.size) limits t
 
@@ -62,8 +72,8 @@ pub record FileCount : Type 0 where
   pub all : List ℕ
   pub kept : List ℕ
 
--- the same, of what the code returns and the slices lent to it
-abbrev pub file_counting : Ran → List ℕ → List ℕ → List ℕ → List ℕ → List ℕ → List ℕ → FileCount
+-- the first run's halt, and the slices lent to both
+abbrev pub file_counting : Halt → List ℕ → List ℕ → List ℕ → List ℕ → List ℕ → List ℕ → FileCount
 file_counting r l h e alive all kept =
     record { number = r.number; row = r.row; low = l; high = h; entries = e; alive = alive; all = all; kept = kept }
 

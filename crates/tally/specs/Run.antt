@@ -7,6 +7,7 @@ use Rattle.benchfile.specs.Row.{row_at}
 use Rattle.benchfile.specs.declared.row.Row.{Row}
 use Rattle.benchfile.specs.declared.row.Row.TheVariants.{Cycles, Read, Write, Pad, Plug, Answer as Reply, Back, Broken}
 use Rattle.state.specs.declared.{Dma.Dma, DmaState.DmaState}
+use Rattle.common.specs.Refusal.{number_of}
 use Rattle.script.specs.{Rig.desk_of, declared.rig.Rig.Rig}
 use Rattle.touch.specs.Who.{who_of}
 use Rattle.walk.specs.Call.{Calling, call_of}
@@ -25,7 +26,7 @@ pub record Tallying : Type 0 where
 
 -- the same, of what the code has and what it runs on
 abbrev pub tallying : Tally → Rig → Tallying
-tallying t g = record { desk = desk_of g; number = t.number; row = t.row; rows = rows t.top t.alive.now; totals = t.totals.now }
+tallying t g = record { desk = desk_of g; number = number_of t.refusal; row = t.row; rows = rows t.top t.alive.now; totals = t.totals.now }
 
 -- the same slices lent, with what another has in them
 abbrev pub keeping : Tally → Tally → Tally

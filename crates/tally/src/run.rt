@@ -1,5 +1,6 @@
 // A script counted: its calls one after the other, to the first that is refused.
 ghost use Rattle.std.specs.Prelude.{◌≡◌};
+ghost use Rattle.common.specs.Refusal.{result_number};
 ghost use Rattle.script.specs.Rig.{desk_of, holding};
 ghost use Rattle.tally.specs.Share.{counted};
 ghost use Rattle.tally.specs.Run.{tallying, keeping, count_in, call_tallied, step_tallied, calls_tallied, calls_in, limit_of, row_tallied, script_tallied};
@@ -9,16 +10,17 @@ use crate::count::count;
 use crate::share::share_of;
 use benchfile::row::{Row, row_at};
 use bus::access::Log;
+use common::refusal::Refusal;
 use script::rig::Rig;
 use state::{Dma, DmaState};
 use touch::who::who_of;
 use walk::call::call;
 
-// The refusal of the last call or 0, and how many rows have begun. For each row how many of its operations survive, a row behind which no row
+// The refusal of the last call, if it was refused, and how many rows have begun. For each row how many of its operations survive, a row behind which no row
 // has any, and the totals.
 #[derive(Drop)]
 pub struct Tally<'a> {
-    pub number: u8,
+    pub refusal: Option<Refusal>,
     pub row: usize,
     pub top: usize,
     pub alive: &'a mut [u16],
@@ -26,8 +28,15 @@ pub struct Tally<'a> {
 }
 
 // Only a cycle counts: nothing else is held, or has the DMA unit do anything. `dma` is the unit before it.
-fn count_in(totals: &mut [u64], says: Row, dma: Dma, held: bool, after: DmaState, log: Log) -> u8
-    ensures { counted result totals.new ≡ count_in says dma held after log totals.old }
+fn count_in(
+    totals: &mut [u64],
+    says: Row,
+    dma: Dma,
+    held: bool,
+    after: DmaState,
+    log: Log,
+) -> Result<(), Refusal>
+    ensures { counted (result_number result) totals.new ≡ count_in says dma held after log totals.old }
 {
     match says {
         Row::Cycles {
@@ -36,12 +45,11 @@ fn count_in(totals: &mut [u64], says: Row, dma: Dma, held: bool, after: DmaState
             due,
             timer,
         } => count(totals, share_of(who_of(dma), held, after, log)),
-        _ => 0,
+        _ => Ok(()),
     }
 }
 
 // The call after `done` others of its row. A refused one counts for nothing.
-#[tactic(auto, unfolding(crate::specs::Run::call_tallied))]
 fn tally_call(rig: &mut Rig<'_>, t: &mut Tally<'_>, row: usize, says: Row, done: u16)
     ensures rig { rig.new ≡ holding rig.old (desk_of rig.new) }
     ensures lent { t.new ≡ keeping t.old t.new }
@@ -49,23 +57,22 @@ fn tally_call(rig: &mut Rig<'_>, t: &mut Tally<'_>, row: usize, says: Row, done:
 {
     let dma = rig.bench.machine.dma;
     let answer = call(rig, done, says);
-    t.number = answer.number;
-    if answer.number != 0 {
+    t.refusal = answer.refusal;
+    if answer.refusal.is_some() {
         return;
     }
     let after = rig.bench.machine.dma.state;
-    t.number = count_in(t.totals, says, dma, answer.held, after, answer.log);
+    t.refusal = count_in(t.totals, says, dma, answer.held, after, answer.log).err();
     t.top = note(t.alive, t.top, row, answer.back);
 }
 
 // One call more, unless one was refused.
-#[tactic(auto, unfolding(crate::specs::Run::step_tallied))]
 fn tally_step(rig: &mut Rig<'_>, t: &mut Tally<'_>, row: usize, says: Row, done: u16)
     ensures rig { rig.new ≡ holding rig.old (desk_of rig.new) }
     ensures lent { t.new ≡ keeping t.old t.new }
     ensures value { tallying t.new rig.new ≡ step_tallied rig.old.rom.now row says done (tallying t.old rig.old) }
 {
-    if t.number != 0 {
+    if t.refusal.is_some() {
         return;
     }
     tally_call(rig, t, row, says, done);
@@ -108,13 +115,12 @@ fn limit(limits: &[u16], row: usize, says: Row) -> u16
 }
 
 // One row more, unless a call was refused.
-#[tactic(auto, unfolding(crate::specs::Run::row_tallied))]
 fn tally_row(rig: &mut Rig<'_>, t: &mut Tally<'_>, script: &[u8], limits: &[u16], row: usize)
     ensures rig { rig.new ≡ holding rig.old (desk_of rig.new) }
     ensures lent { t.new ≡ keeping t.old t.new }
     ensures value { tallying t.new rig.new ≡ row_tallied rig.old.rom.now script.now limits.now row (tallying t.old rig.old) }
 {
-    if t.number != 0 {
+    if t.refusal.is_some() {
         return;
     }
     let says = row_at(script, row);

@@ -6,8 +6,8 @@ use mathlib.Core.Path.{◌≡◌, sym, ap, ◌∙◌, ◌∙⁻¹◌}
 use native.Mathlib.Omega.{arith}
 use lib.ListN.{get_or}
 use Rattle.totals.proofs.{Passing.fits-at, Folders.accepted}
-use Rattle.totals.specs.{Folder.add_call, Mean.common_up_to, Mean.mean_of}
-use Rattle.totals.specs.declared.{folder.Folder.Folder, folder.Added.Added, mean.Fraction.Fraction}
+use Rattle.totals.specs.{Folder.Added, Folder.add_call, Mean.common_up_to, Mean.mean_of}
+use Rattle.totals.specs.declared.{folder.Folder.Folder, mean.Fraction.Fraction}
 
 module _ (f : Folder) (all alive : List ℕ) {r : Added} (k : r ≡ add_call f all alive) where
   -- 1 added to 2^64 - 1 and accepted

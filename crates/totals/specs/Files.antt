@@ -1,7 +1,7 @@
 -- A folder made of a list of files, one by one.
 use Rattle.std.specs.Prelude.{ℕ, List, [], ◌∷◌, map, ◌≡◌, get_or}
-use Rattle.totals.specs.Folder.{no_files, add_call}
-use Rattle.totals.specs.declared.{folder.Folder.Folder, folder.Added.Added}
+use Rattle.totals.specs.Folder.{no_files, Added, add_call}
+use Rattle.totals.specs.declared.folder.Folder.{Folder}
 
 -- a file's figures: of all operations, and of the survivors
 pub record File : Type 0 where

@@ -1,8 +1,10 @@
 -- A folder, and one file more: refused where a total would not fit, then where there are 256 files already.
-use Rattle.std.specs.Prelude.{ℕ, ◌+◌, Bool, ◌||◌, List, eqb, leb}
+use Rattle.std.specs.Prelude.{ℕ, ◌+◌, Bool, ◌||◌, List, Result, Ok, Err, eqb, leb}
 use Rattle.common.specs.Pick.{pick}
 use Rattle.totals.specs.Column.{passes, no_column, column_with}
-use Rattle.totals.specs.declared.{folder.Folder.Folder, folder.Added.Added}
+use Rattle.common.specs.Refusal.{refusal_number}
+use Rattle.common.specs.declared.refusal.Refusal.{Refusal}
+use Rattle.totals.specs.declared.folder.Folder.{Folder}
 
 -- no files: everything 0
 abbrev pub no_files : Folder
@@ -27,6 +29,16 @@ folder_with f all alive = record {
   all = column_with f.all (f.files + 1) all;
   alive = column_with f.alive (f.files + 1) alive;
 }
+
+-- the refusal or 0, and the folder
+pub record Added : Type 0 where
+  pub number : ℕ
+  pub folder : Folder
+
+-- the same, of what the code returns beside the folder given
+abbrev pub added : Folder → Result Folder Refusal → Added
+added f (Ok g) = record { number = 0; folder = g }
+added f (Err x) = record { number = refusal_number x; folder = f }
 
 -- one file more; a refused call leaves the folder
 unfoldable pub add_call : Folder → List ℕ → List ℕ → Added

@@ -1,8 +1,10 @@
 // A folder of up to 256 files, and one file more.
 ghost use Rattle.std.specs.Prelude.{◌≡◌};
-ghost use Rattle.totals.specs.Folder.{no_files, folder_number, add_call};
+ghost use Rattle.common.specs.Refusal.{result_number};
+ghost use Rattle.totals.specs.Folder.{no_files, folder_number, added, add_call};
 
 use crate::{Column, Figures, empty, too_much, with_file};
+use common::refusal::Refusal;
 
 // How many files there are so far, and their figures: of all operations, and of the survivors.
 #[derive(Clone, Copy)]
@@ -10,13 +12,6 @@ pub struct Folder {
     pub files: u64,
     pub all: Column,
     pub alive: Column,
-}
-
-// The refusal, or 0; and the folder, which a refused call leaves as it was.
-#[derive(Clone, Copy)]
-pub struct Added {
-    pub number: u8,
-    pub folder: Folder,
 }
 
 pub fn none() -> Folder
@@ -30,33 +25,27 @@ pub fn none() -> Folder
 }
 
 // A total that does not fit is named before a folder that is full.
-fn refusal(f: Folder, all: Figures, alive: Figures) -> u8
-    ensures { result ≡ folder_number f all.counts alive.counts }
+fn allowed(f: Folder, all: Figures, alive: Figures) -> Result<(), Refusal>
+    ensures { result_number result ≡ folder_number f all.counts alive.counts }
 {
     if too_much(f.all, all) | too_much(f.alive, alive) {
-        return 13;
+        return Err(Refusal::Total);
     }
     if 256 <= f.files {
-        return 14;
+        return Err(Refusal::Files);
     }
-    0
+    Ok(())
 }
 
 // One file more. Its number is one above the count of those before.
-pub fn add(f: Folder, all: Figures, alive: Figures) -> Added
-    ensures { result ≡ add_call f all.counts alive.counts }
+pub fn add(f: Folder, all: Figures, alive: Figures) -> Result<Folder, Refusal>
+    ensures { added f result ≡ add_call f all.counts alive.counts }
 {
-    let number = refusal(f, all, alive);
-    if number != 0 {
-        return Added { number, folder: f };
-    }
+    allowed(f, all, alive)?;
     let files = f.files + 1;
-    Added {
-        number: 0,
-        folder: Folder {
-            files,
-            all: with_file(f.all, files, all),
-            alive: with_file(f.alive, files, alive),
-        },
-    }
+    Ok(Folder {
+        files,
+        all: with_file(f.all, files, all),
+        alive: with_file(f.alive, files, alive),
+    })
 }

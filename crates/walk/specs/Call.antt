@@ -3,27 +3,52 @@ use Rattle.std.specs.Prelude.{ℕ, Bool, true, false, List}
 use Rattle.bench.specs.Calls.{Desk, CycleOut, cycle_call, PlainOut, back_call}
 use Rattle.benchfile.specs.declared.row.Row.{Row}
 use Rattle.benchfile.specs.declared.row.Row.TheVariants.{Cycles, Read, Write, Pad, Plug, Answer as Reply, Back, Broken}
-use Rattle.bus.specs.Access.{no_log}
+use Rattle.bus.specs.{Access.no_log, Access.Log}
+use Rattle.common.specs.Refusal.{number_of}
 use Rattle.script.specs.Row.{row_run}
 use Rattle.script.specs.Run.{Running, first_of, first_flag}
 use Rattle.script.specs.{Rig.desk_of, declared.rig.Rig.Rig}
 use Rattle.walk.specs.declared.call.Answer.{Answer}
 
+-- what a call answers: its refusal or 0, and the rest as the code has it
+pub record Answered : Type 0 where
+  pub number : ℕ
+  pub byte : ℕ
+  pub cost : ℕ
+  pub held : Bool
+  pub edge : Bool
+  pub back : Bool
+  pub count : ℕ
+  pub log : Log
+
+-- the same, of what the code returns
+abbrev pub answered : Answer → Answered
+answered a = record {
+  number = number_of a.refusal;
+  byte = a.byte;
+  cost = a.cost;
+  held = a.held;
+  edge = a.edge;
+  back = a.back;
+  count = a.count;
+  log = a.log;
+}
+
 -- what a call answers and leaves
 pub record Calling : Type 0 where
-  pub answer : Answer
+  pub answer : Answered
   pub desk : Desk
 
 -- the same, of what the code returns and what it ran on
 abbrev pub calling : Answer → Rig → Calling
-calling a g = record { answer = a; desk = desk_of g }
+calling a g = record { answer = answered a; desk = desk_of g }
 
 -- the answer of a cycle of a row of n
-abbrev pub cycle_answer : ℕ → CycleOut → Answer
+abbrev pub cycle_answer : ℕ → CycleOut → Answered
 cycle_answer n o = record { number = o.number; byte = 0; cost = 0; held = o.held; edge = o.edge; back = false; count = n; log = o.log }
 
 -- that of a call that is no cycle: refusal or 0, byte, cost, whether it is a back step, of a row of n
-abbrev pub plain_answer : ℕ → ℕ → ℕ → Bool → ℕ → Answer
+abbrev pub plain_answer : ℕ → ℕ → ℕ → Bool → ℕ → Answered
 plain_answer number byte cost back n = record { number = number; byte = byte; cost = cost; held = false; edge = false; back = back; count = n; log = no_log }
 
 -- a cycle of a row of n

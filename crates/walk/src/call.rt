@@ -1,21 +1,23 @@
 // One call of a script row.
 ghost use Rattle.std.specs.Prelude.{◌≡◌};
 ghost use Rattle.script.specs.Rig.{desk_of, holding};
-ghost use Rattle.walk.specs.Call.{plain_answer, calling, call_of};
+ghost use Rattle.common.specs.Refusal.{number_of};
+ghost use Rattle.walk.specs.Call.{plain_answer, answered, calling, call_of};
 
 use bench::back::back;
 use bench::operate::cycle;
 use benchfile::row::Row;
 use bus::access::{Log, no_log};
+use common::refusal::Refusal;
 use script::repeat::{first_flag, first_of};
 use script::rig::Rig;
 use script::row::run_row;
 
-// What a call answers: the refusal or 0; a read's byte and an access's cost; a cycle's held, NMI edge and accesses. `back` is set for a
+// What a call answers: the refusal, if there is one; a read's byte and an access's cost; a cycle's held, NMI edge and accesses. `back` is set for a
 // back step; `count` is how many calls the row is.
 #[derive(Clone, Copy)]
 pub struct Answer {
-    pub number: u8,
+    pub refusal: Option<Refusal>,
     pub byte: u32,
     pub cost: u32,
     pub held: bool,
@@ -26,11 +28,11 @@ pub struct Answer {
 }
 
 // The answer of a call that is no cycle.
-fn plain(number: u8, byte: u32, cost: u32, back: bool, count: u16) -> Answer
-    ensures { result ≡ plain_answer number byte cost back count }
+fn plain(refusal: Option<Refusal>, byte: u32, cost: u32, back: bool, count: u16) -> Answer
+    ensures { answered result ≡ plain_answer (number_of refusal) byte cost back count }
 {
     Answer {
-        number,
+        refusal,
         byte,
         cost,
         held: false,
@@ -57,27 +59,29 @@ pub fn call(rig: &mut Rig<'_>, done: u16, says: Row) -> Answer
             let e = first_of(done, event);
             let l = first_flag(done, due);
             let t = first_flag(done, timer);
-            let r = cycle(rig.bench, rig.low, rig.high, rig.entries, rig.rom, e, l, t);
-            rig.bench = r.bench;
-            Answer {
-                number: r.number,
-                byte: 0,
-                cost: 0,
-                held: r.held,
-                edge: r.edge,
-                back: false,
-                count,
-                log: r.log,
+            match cycle(rig.bench, rig.low, rig.high, rig.entries, rig.rom, e, l, t) {
+                Ok(r) => {
+                    rig.bench = r.bench;
+                    Answer {
+                        held: r.held,
+                        edge: r.edge,
+                        log: r.log,
+                        ..plain(None, 0, 0, false, count)
+                    }
+                }
+                Err(refusal) => plain(Some(refusal), 0, 0, false, count),
             }
         }
-        Row::Back { count } => {
-            let r = back(rig.bench, rig.low, rig.high, rig.entries);
-            rig.bench = r.bench;
-            plain(r.number, 0, 0, true, count)
-        }
+        Row::Back { count } => match back(rig.bench, rig.low, rig.high, rig.entries) {
+            Ok(bench) => {
+                rig.bench = bench;
+                plain(None, 0, 0, true, count)
+            }
+            Err(refusal) => plain(Some(refusal), 0, 0, true, count),
+        },
         _ => {
             let r = run_row(rig, says);
-            plain(r.number, r.a, r.b, false, 1)
+            plain(r.refusal, r.a, r.b, false, 1)
         }
     }
 }

@@ -1,6 +1,9 @@
 // Where a script stands.
 ghost use Rattle.std.specs.Prelude.{◌≡◌};
+ghost use Rattle.common.specs.Refusal.{number_of};
 ghost use Rattle.walk.specs.Stand.{up, onward, counted};
+
+use common::refusal::Refusal;
 
 // The row to run next, from 0; how many of its calls were accepted, and how many of those were held.
 #[derive(Clone, Copy)]
@@ -13,17 +16,16 @@ pub struct Stand {
 fn up_by(n: u16, counts: bool) -> u16
     ensures { result ≡ up n counts }
 {
-    if counts { n.wrapping_add(1) } else { n }
+    n.wrapping_add(counts as u16)
 }
 
-// One call more, by its refusal or 0 and whether it was held. A refused call is never held.
-#[tactic(auto, unfolding(crate::specs::Stand::counted))]
-pub fn count_call(s: Stand, number: u8, held: bool) -> Stand
-    ensures { result ≡ counted s number held }
+// One call more, by its refusal and whether it was held. A refused call is never held.
+pub fn count_call(s: Stand, refusal: Option<Refusal>, held: bool) -> Stand
+    ensures { result ≡ counted s (number_of refusal) held }
 {
     Stand {
         next: s.next,
-        done: up_by(s.done, number == 0),
+        done: up_by(s.done, refusal.is_none()),
         held: up_by(s.held, held),
     }
 }

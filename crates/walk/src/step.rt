@@ -25,7 +25,7 @@ pub fn next_call(rig: &mut Rig<'_>, script: &[u8], stand: Stand) -> Step
 {
     let says = row_at(script, stand.next);
     let answer = call(rig, stand.done, says);
-    let with = count_call(stand, answer.number, answer.held);
+    let with = count_call(stand, answer.refusal, answer.held);
     Step {
         says,
         answer,

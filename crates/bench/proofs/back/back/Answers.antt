@@ -1,3 +1,4 @@
+use Rattle.std.proofs.Common.{rules}
 use mathlib.Core.Path.{refl, ap}
 use Rattle.wram.specs.Lent.{seen}
 use Rattle.bench.proofs.Join.{passed, back-refused, back_done}
@@ -13,4 +14,5 @@ returns-in_err-back_allowed c =
 
 pub returns : goal.returns
 returns c =
-    back_done _ c.in_ok-lent.ensures c.capacity.ensures c.slot_before-slot.ensures c.read_entry-newest.ensures c.in_ok-back_allowed.ensures c.less_kept.ensures c.sum_before-sum.ensures (ap seen c.put_back.ensures)
+    let made = back_done _ c.in_ok-lent.ensures c.capacity.ensures c.slot_before-slot.ensures c.read_entry-newest.ensures c.in_ok-back_allowed.ensures c.less_kept.ensures c.sum_before-sum.ensures (ap seen c.put_back.ensures) in
+    search rules

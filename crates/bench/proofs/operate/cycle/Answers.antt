@@ -1,4 +1,4 @@
-use Rattle.std.proofs.Common.{refl, ap}
+use Rattle.std.proofs.Common.{rules, refl, ap}
 use Rattle.wram.specs.Lent.{seen}
 use Rattle.bench.proofs.Join.{passed, cycle-refused, cycle-done}
 use Rattle.ring.proofs.Also.{cycle-first}
@@ -13,4 +13,5 @@ returns-in_err-cycle_allowed c =
 
 pub returns : goal.returns
 returns c =
-    cycle-done _ _ c.in_ok-lent.ensures _ _ _ c.in_ok-cycle_allowed.ensures c.event_of.ensures refl c.cycle-turn.ensures.turn (ap seen c.cycle-turn.ensures.ram) c.cycle-turn.ensures.machine c.sum_after-sum.ensures c.note-bench.ensures
+    let made = cycle-done _ _ c.in_ok-lent.ensures _ _ _ c.in_ok-cycle_allowed.ensures c.event_of.ensures refl c.cycle-turn.ensures.turn (ap seen c.cycle-turn.ensures.ram) c.cycle-turn.ensures.machine c.sum_after-sum.ensures c.note-bench.ensures in
+    search rules

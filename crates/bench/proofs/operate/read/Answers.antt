@@ -1,4 +1,4 @@
-use Rattle.std.proofs.Common.{refl, ap}
+use Rattle.std.proofs.Common.{rules, refl, ap}
 use Rattle.bus.specs.Lent.{world_on}
 use Rattle.bench.proofs.Join.{passed, read-refused, read_done_lem}
 use Rattle.bench.proofs.operate.read.Goals as goal
@@ -8,4 +8,5 @@ returns-in_err-lent c = rw (passed _ c.from_residual.ensures) (read-refused _ _ 
 
 pub returns : goal.returns
 returns c =
-    read_done_lem _ _ _ _ c.in_ok-lent.ensures c.opened_core.ensures refl c.read-byte.ensures.byte (ap world_on c.read-byte.ensures.after) c.with_io.ensures c.sum_after-sum.ensures c.note-bench.ensures c.cost.ensures
+    let made = read_done_lem _ _ _ _ c.in_ok-lent.ensures c.opened_core.ensures refl c.read-byte.ensures.byte (ap world_on c.read-byte.ensures.after) c.with_io.ensures c.sum_after-sum.ensures c.note-bench.ensures c.cost.ensures in
+    search rules

@@ -5,5 +5,5 @@ use Rattle.script.proofs.repeat.run_backs.Given as goal
 abbrev pub invariant-loop-i : goal.invariant-loop-i
 invariant-loop-i l = record {
   same : l.rig ≡ holding l.fn.rig (desk_of l.rig);
-  is : ran l.s l.rig ≡ backs_run l.i (desk_of l.fn.rig)
+  is : ran l.s l.rig ≡ backs_run l.i (desk_of l.fn.rig);
 }

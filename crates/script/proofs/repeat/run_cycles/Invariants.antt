@@ -5,5 +5,5 @@ use Rattle.script.proofs.repeat.run_cycles.Given as goal
 abbrev pub invariant-loop-i : goal.invariant-loop-i
 invariant-loop-i l = record {
   same : l.rig ≡ holding l.fn.rig (desk_of l.rig);
-  is : ran l.s l.rig ≡ cycles_run l.fn.rig.rom.now l.event l.line l.timer l.i (desk_of l.fn.rig)
+  is : ran l.s l.rig ≡ cycles_run l.fn.rig.rom.now l.event l.line l.timer l.i (desk_of l.fn.rig);
 }

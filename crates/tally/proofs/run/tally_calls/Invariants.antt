@@ -7,5 +7,5 @@ abbrev pub invariant-loop-i : goal.invariant-loop-i
 invariant-loop-i l = record {
   rig : l.rig ≡ holding l.fn.rig (desk_of l.rig);
   lent : l.t ≡ keeping l.fn.t l.t;
-  is : tallying l.t l.rig ≡ calls_tallied l.fn.rig.rom.now l.row l.says l.i (tallying l.fn.t l.fn.rig)
+  is : tallying l.t l.rig ≡ calls_tallied l.fn.rig.rom.now l.row l.says l.i (tallying l.fn.t l.fn.rig);
 }

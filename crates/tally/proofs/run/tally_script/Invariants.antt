@@ -7,5 +7,5 @@ abbrev pub invariant-loop-row : goal.invariant-loop-row
 invariant-loop-row l = record {
   rig : l.rig ≡ holding l.fn.rig (desk_of l.rig);
   lent : l.t ≡ keeping l.fn.t l.t;
-  is : tallying l.t l.rig ≡ rows_tallied l.fn.rig.rom.now l.script l.limits l.row (tallying l.fn.t l.fn.rig)
+  is : tallying l.t l.rig ≡ rows_tallied l.fn.rig.rom.now l.script l.limits l.row (tallying l.fn.t l.fn.rig);
 }

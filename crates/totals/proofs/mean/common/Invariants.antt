@@ -4,6 +4,3 @@ use Rattle.totals.proofs.mean.common.Given as goal
 
 abbrev pub invariant-loop-d : goal.invariant-loop-d
 invariant-loop-d l = common_up_to l.sum l.files l.d ≡ common_up_to l.sum l.files l.files
-
-abbrev pub decreases-loop-d : goal.decreases-loop-d
-decreases-loop-d l = l.d

@@ -1,5 +1,5 @@
 use Rattle.totals.proofs.Folders.{number-over, number-full, number-fine}
-use Rattle.totals.proofs.folder.refusal.Goals as goal
+use Rattle.totals.proofs.folder.allowed.Goals as goal
 
 pub returns-then-too_much : goal.returns-then-too_much
 returns-then-too_much c = number-over _ _ _ c.too_much.ensures c.too_much-2.ensures c.if-too_much.true

@@ -1,5 +1,5 @@
 -- The bench file that a text (docs/BENCH.md) says.
-use Rattle.std.specs.Prelude.{ℕ, Bool, not, ◌&&◌, List, eqb, replicate}
+use Rattle.std.specs.Prelude.{ℕ, Bool, not, ◌&&◌, Option, Some, None, List, eqb, replicate}
 use Rattle.common.specs.Pick.{pick}
 use Rattle.append.specs.Sheet.{Sheet, sheet, puts, shown_of}
 use Rattle.fields.specs.Bytes.{part_of}
@@ -16,6 +16,10 @@ ready_of d = not (has_failed d) && no_later phase.Fill d.phase
 -- the place behind a bench file; 0 for bytes that are none
 unfoldable pub checked : List ℕ → ℕ → ℕ
 checked l n = pick (eqb (file_check (part_of l 0 n)) 0) n 0
+
+-- the length of a file, where there is one
+abbrev pub placed : ℕ → Option ℕ
+placed n = pick (eqb n 0) None (Some n)
 
 -- the bodies bound, and checked
 unfoldable pub finished : List ℕ → List ℕ → List ℕ → List ℕ → Sheet

@@ -1,7 +1,6 @@
 // The text of a bench file to the file.
 ghost use Rattle.std.specs.Prelude.{◌≡◌};
-ghost use Rattle.append.specs.Sheet.{sheet};
-ghost use Rattle.assembler.specs.Assemble.{ready_of, checked, finished, assembled};
+ghost use Rattle.assembler.specs.Assemble.{ready_of, placed, checked, finished, assembled};
 
 use crate::bind::bind;
 use crate::desk::gather;
@@ -19,23 +18,20 @@ pub fn ready(d: Draft) -> bool
     !has_failed(d) && Phase::Fill <= d.phase
 }
 
-// The place behind a bench file; 0 for bytes that are none.
-#[tactic(auto, unfolding(crate::specs::Assemble::checked))]
-fn check(out: &[u8], n: usize) -> usize
-    ensures { result ≡ checked out.now n }
+// The length of a bench file; none for bytes that are no file.
+#[tactic(auto, unfolding(crate::specs::Assemble::checked), using(crate::proofs::Placed::files))]
+fn check(out: &[u8], n: usize) -> Option<usize>
+    ensures { result ≡ placed (checked out.now n) }
 {
-    if file_check(part(out, 0, n)).is_ok() {
-        n
-    } else {
-        0
-    }
+    file_check(part(out, 0, n)).ok()?;
+    Some(n)
 }
 
 // The bodies bound, and checked.
 #[tactic(auto, unfolding(crate::specs::Assemble::finished))]
-fn finish(out: &mut [u8], front: &[u8], rom: &[u8], script: &[u8]) -> usize
-    ensures { sheet out.new result
-        ≡ finished out.old front.now rom.now script.now }
+fn finish(out: &mut [u8], front: &[u8], rom: &[u8], script: &[u8]) -> Option<usize>
+    ensures text { out.new ≡ (finished out.old front.now rom.now script.now).text }
+    ensures file { result ≡ placed (finished out.old front.now rom.now script.now).at }
 {
     let mut file = Sheet { text: out, at: 0 };
     bind(&mut file, front, rom, script);
@@ -43,20 +39,20 @@ fn finish(out: &mut [u8], front: &[u8], rom: &[u8], script: &[u8]) -> usize
     check(out, n)
 }
 
-// The file's length, with the file at the start of `out`; 0 where the text says none. `file` is the ROM file.
-pub fn assemble_text(out: &mut [u8], text: &[u8], file: &[u8]) -> usize
-    ensures { sheet out.new result ≡ assembled out.old text.now file.now }
+// The file's length, with the file at the start of `out`; none where the text says no file. `file` is the ROM file.
+pub fn assemble_text(out: &mut [u8], text: &[u8], file: &[u8]) -> Option<usize>
+    ensures text { out.new ≡ (assembled out.old text.now file.now).text }
+    ensures file { result ≡ placed (assembled out.old text.now file.now).at }
 {
     let mut front = [0u8; 4099];
     let mut rom = [0u8; 65537];
     let mut script = [0u8; 65537];
     let k = gather(&mut front, &mut rom, &mut script, file, text);
-    let r = k.reader;
-    if ready(r.draft) {
-        let a = part(&front, 0, k.front);
-        let b = part(&rom, 0, k.rom);
-        let c = part(&script, 0, k.script);
-        return finish(out, a, b, c);
+    if !ready(k.reader.draft) {
+        return None;
     }
-    0
+    let front = part(&front, 0, k.front);
+    let rom = part(&rom, 0, k.rom);
+    let script = part(&script, 0, k.script);
+    finish(out, front, rom, script)
 }

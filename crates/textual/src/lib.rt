@@ -20,12 +20,13 @@ use std::io;
 // The bench file of a text, and the bytes of its ROM file.
 fn assembled(rt: HostRuntime, text: &[u8], rom: &[u8]) -> io::Result<()> {
     let mut out = [0u8; 65537];
-    let n = assemble_text(&mut out, text, rom);
-    if n == 0 {
-        report(rt, text);
-        return Ok(());
+    match assemble_text(&mut out, text, rom) {
+        Some(n) => rt.write_all(part(&out, 0, n)),
+        None => {
+            report(rt, text);
+            Ok(())
+        }
     }
-    rt.write_all(part(&out, 0, n))
 }
 
 // A ROM file over 65,536 bytes makes no bench.

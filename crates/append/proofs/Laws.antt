@@ -63,7 +63,7 @@ unfolding flat_map
 put_more_texts s g l i h =
     let e : take (i + 1) l ≡ take i l ++ (get_or l i 0 ∷ []) = rw add-one (take-suc l i 0 h) in
     let m : flat_map g (take (i + 1) l) ≡ flat_map g (take i l) ++ (g (get_or l i 0) ++ []) =
-        ap (flat_map g) e ∙ flat_map-append g (take i l) (get_or l i 0 ∷ []) in
+    ap (flat_map g) e ∙ flat_map-append g (take i l) (get_or l i 0 ∷ []) in
     ap (foldl push s) m ∙ foldl-append push s (flat_map g (take i l)) (g (get_or l i 0) ++ []) ∙ rw append-nil
 
 -- the same byte once more

@@ -10,8 +10,8 @@ ghost use Rattle.inplace.specs.Rest.{ticking, counting, rested};
 
 use asbytes::bytes::{kept_at, length_at, put_counts, put_head, slot_at};
 use asbytes::{ACCESSES, ACCESSES_SIZE};
-use fields::word::byte;
 use fields::put;
+use fields::word::byte;
 use layout::{CLOCK, ENTRY_SIZE, NMI, WAIT, capacity};
 use ring::slots::{more_kept, slot_after};
 use way::{clock_at, nmi_at, wait_at};

@@ -46,7 +46,14 @@ fn tick(board: &mut Board, nmi: bool)
 }
 
 #[tactic(auto, unfolding(crate::specs::Cycle::cycled))]
-pub fn cycle(m: &mut Machine, ram: &mut Ram<'_>, rom: &[u8], event: Event, line: bool, hit: bool) -> Turn
+pub fn cycle(
+    m: &mut Machine,
+    ram: &mut Ram<'_>,
+    rom: &[u8],
+    event: Event,
+    line: bool,
+    hit: bool,
+) -> Turn
     ensures turn { result ≡ told (cycled_on rom.now m.old ram.old event line hit) }
     ensures machine { m.new ≡ machine_after (cycled_on rom.now m.old ram.old event line hit) }
     ensures ram { ram.new ≡ holding ram.old (cycled_on rom.now m.old ram.old event line hit).after.world.ram }

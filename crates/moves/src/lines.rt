@@ -21,14 +21,7 @@ use walk::stand::Stand;
 
 // The access of a read or a write row, or its refusal.
 #[tactic(auto, unfolding(crate::specs::Text::cpu_text), using(std::proofs::lemmas::Bool::Decides::nat_tests))]
-fn put_cpu(
-    out: &mut Sheet<'_>,
-    row: u64,
-    only: u32,
-    before: Machine,
-    access: Access,
-    number: u8,
-)
+fn put_cpu(out: &mut Sheet<'_>, row: u64, only: u32, before: Machine, access: Access, number: u8)
     ensures { out.new ≡ putting out.old (cpu_text row only before access number) }
 {
     let clock = before.board.clock;
@@ -82,9 +75,7 @@ pub fn put_step(
     match says {
         Row::Cycles { count, .. } => {
             put_cycle(out, row, only, before, answer.log, answer.edge);
-            put_end(
-                out, row, clock, only, number, stand.held, stand.done, count,
-            );
+            put_end(out, row, clock, only, number, stand.held, stand.done, count);
         }
         Row::Read { bank, addr } => {
             let access = Access {

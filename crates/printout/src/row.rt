@@ -68,6 +68,15 @@ pub fn run_line(
         at: used,
     };
     let refused = number_of(ran.refusal);
-    put_shown(&mut text, show, number, kind, refused, ran.a, ran.b, rig.bench.sum);
+    put_shown(
+        &mut text,
+        show,
+        number,
+        kind,
+        refused,
+        ran.a,
+        ran.b,
+        rig.bench.sum,
+    );
     Lined { ran, used: text.at }
 }

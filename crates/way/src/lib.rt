@@ -165,13 +165,7 @@ fn kind_of(s: &[u8]) -> Way
     }
     match turn_of(s) {
         Way::Full => Way::Full,
-        turn => {
-            if image_ok(s) {
-                turn
-            } else {
-                Way::Full
-            }
-        }
+        turn => { if image_ok(s) { turn } else { Way::Full } }
     }
 }
 

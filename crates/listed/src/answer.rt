@@ -99,21 +99,22 @@ pub(crate) fn answer<'a>(
     let high0 = high;
     let entries0 = entries;
     let m = lend(s, l, &mut low, &mut high, &mut entries, rom);
-    let mut line = Sheet { text: line, at: 0 };
-    opening(&mut line, l.kind, m);
-    let bare = line.at;
-    changes(&mut line, b'm', Digits::Three, &s, &m.after);
-    changes(&mut line, b'l', Digits::Six, &low0, &low);
-    changes(&mut line, b'h', Digits::Six, &high0, &high);
-    slots(&mut line, s, &entries0, &entries);
-    accesses(&mut line, m.log);
-    look(&mut line, l, &low, &high);
-    let stayed = line.at == bare;
-    line.push(b'\n');
+    let mut out = Sheet { text: line, at: 0 };
+    opening(&mut out, l.kind, m);
+    let bare = out.at;
+    changes(&mut out, b'm', Digits::Three, &s, &m.after);
+    changes(&mut out, b'l', Digits::Six, &low0, &low);
+    changes(&mut out, b'h', Digits::Six, &high0, &high);
+    slots(&mut out, s, &entries0, &entries);
+    accesses(&mut out, m.log);
+    look(&mut out, l, &low, &high);
+    let stayed = out.at == bare;
+    out.push(b'\n');
+    let end = out.at;
     let silent = !m.held & !m.edge & (m.byte == 0) & (m.cost == 0);
     Told {
         refusal: m.refusal,
         still: silent & stayed,
-        line: part(line.text, 0, line.at),
+        line: part(line, 0, end),
     }
 }

@@ -6,14 +6,12 @@ ghost use Rattle.benchfile.specs.File.{adjoin, chained, sized, script_formed, so
 use crate::contents::{body, end, size, start};
 use crate::row::formed;
 use common::refusal::Refusal;
-use fields::part::part;
 
 // One section starts where another ends.
 fn adjoins(file: &[u8], section: u8, next: u8) -> bool
     ensures { result ≡ adjoin file.now section next }
 {
-    let at = start(file, next);
-    end(file, section) == at as u64
+    end(file, section) == start(file, next) as u64
 }
 
 // The bodies follow from 32 without gap, in order, to the end.
@@ -21,13 +19,11 @@ fn adjoins(file: &[u8], section: u8, next: u8) -> bool
 fn in_order(file: &[u8]) -> bool
     ensures { result ≡ chained file.now }
 {
-    let first = start(file, 0);
-    let last = end(file, 3);
-    (first == 32)
-        & adjoins(file, 0, 1)
-        & adjoins(file, 1, 2)
-        & adjoins(file, 2, 3)
-        & (last == file.len() as u64)
+    start(file, 0) == 32
+        && adjoins(file, 0, 1)
+        && adjoins(file, 1, 2)
+        && adjoins(file, 2, 3)
+        && end(file, 3) == file.len() as u64
 }
 
 // Settings are 2 bytes, the fill 1 to 4,096.
@@ -35,37 +31,24 @@ fn in_order(file: &[u8]) -> bool
 fn right_sizes(file: &[u8]) -> bool
     ensures { result ≡ sized file.now }
 {
-    let settings = size(file, 0);
-    let fill = size(file, 1);
-    (settings == 2) & (1 <= fill) & (fill <= 4096)
+    size(file, 0) == 2 && (1..=4096).contains(&size(file, 1))
 }
 
-// Whole rows, each well formed.
+// Whole rows, each well formed: a shorter last one is not.
 fn rows_formed(script: &[u8]) -> bool
     ensures { result ≡ script_formed script.now }
 {
-    if script.len() % 8 != 0 {
-        return false;
-    }
-    let n = script.len() / 8;
-    let mut i = 0;
-    while i < n {
-        let row = part(script, i * 8, 8);
-        if !formed(row) {
-            return false;
-        }
-        i += 1;
-    }
-    true
+    script.chunks(8).all(formed)
 }
 
 #[tactic(auto, unfolding(crate::specs::File::sound))]
 fn is_sound(file: &[u8]) -> bool
     ensures { result ≡ sound file.now }
 {
-    let n = file.len();
-    let script = body(file, 3);
-    (32 <= n) & (n <= 65536) & in_order(file) & right_sizes(file) & rows_formed(script)
+    (32..=65536).contains(&file.len())
+        && in_order(file)
+        && right_sizes(file)
+        && rows_formed(body(file, 3))
 }
 
 // 11 where the file is no bench file.

@@ -23,9 +23,7 @@ pub fn size(file: &[u8], section: u8) -> u32
 pub fn end(file: &[u8], section: u8) -> u64
     ensures { result ≡ end_of file.now section }
 {
-    let at = start(file, section);
-    let n = size(file, section);
-    at as u64 + n as u64
+    start(file, section) as u64 + size(file, section) as u64
 }
 
 // The part of the file that a row of the contents names.
@@ -33,7 +31,9 @@ pub fn end(file: &[u8], section: u8) -> u64
 pub fn body(file: &[u8], section: u8) -> &[u8]
     ensures { result.now ≡ body_of file.now section }
 {
-    let at = start(file, section);
-    let n = size(file, section);
-    part(file, at as usize, n as usize)
+    part(
+        file,
+        start(file, section) as usize,
+        size(file, section) as usize,
+    )
 }

@@ -38,7 +38,8 @@ pub enum Row {
     Back {
         count: u16,
     },
-    // No row, or bytes that break the form.
+    // No row, or bytes that break the form. No Option: the definitions and theorems of script, walk, tally and tallied
+    // take a row with this case.
     Broken,
 }
 
@@ -46,14 +47,7 @@ pub enum Row {
 fn zero_from(row: &[u8], at: usize) -> bool
     ensures { result ≡ zeros row.now at }
 {
-    let mut i = at;
-    while i < row.len() {
-        if row[i] != 0 {
-            return false;
-        }
-        i += 1;
-    }
-    true
+    row.iter().skip(at).all(|b| *b == 0)
 }
 
 // The form of a row, by its kind.
@@ -64,15 +58,13 @@ pub fn formed(row: &[u8]) -> bool
     if row.len() != 8 {
         return false;
     }
-    let kind = byte(row, 0);
-    match kind {
-        1 => (1 <= two(row, 1)) & (byte(row, 4) <= 3) & zero_from(row, 5),
-        2 => zero_from(row, 4),
+    match byte(row, 0) {
+        1 => 1 <= two(row, 1) && byte(row, 4) <= 3 && zero_from(row, 5),
+        2 | 4 => zero_from(row, 4),
         3 => zero_from(row, 5),
-        4 => zero_from(row, 4),
-        5 => (byte(row, 2) <= 1) & zero_from(row, 3),
-        6 => (byte(row, 1) == 0) & zero_from(row, 5),
-        7 => (1 <= two(row, 1)) & zero_from(row, 3),
+        5 => byte(row, 2) <= 1 && zero_from(row, 3),
+        6 => byte(row, 1) == 0 && zero_from(row, 5),
+        7 => 1 <= two(row, 1) && zero_from(row, 3),
         _ => false,
     }
 }
@@ -82,8 +74,7 @@ pub fn formed(row: &[u8]) -> bool
 fn fields(row: &[u8]) -> Row
     ensures { result ≡ fields_of row.now }
 {
-    let kind = byte(row, 0);
-    match kind {
+    match byte(row, 0) {
         1 => {
             let flags = byte(row, 4);
             Row::Cycles {

@@ -12,9 +12,9 @@ pub fn section_look(file: &[u8], section: u8) -> Result<&[u8], Refusal>
     ensures number { result_number result ≡ section_number file.now section }
     ensures bytes { result_bytes result ≡ section_of file.now section }
 {
-    if section <= 3 {
-        file_check(file)?;
-        return Ok(body(file, section));
+    if section > 3 {
+        return Err(Refusal::BenchFile);
     }
-    Err(Refusal::BenchFile)
+    file_check(file)?;
+    Ok(body(file, section))
 }

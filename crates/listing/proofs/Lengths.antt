@@ -10,14 +10,13 @@ use Rattle.append.proofs.Decimal.{most, most-padded}
 use Rattle.bus.specs.{Access.no_access, declared.access.Access.Access, Access.Log}
 use Rattle.registers.specs.declared.wm_address.WmAddress.{WmAddress}
 use Rattle.state.specs.declared.Machine.{Machine}
-use Rattle.touch.specs.{Reach.reach_of, Who.who_of, Who.starts_at_zero}
-use Rattle.touch.specs.declared.{reach.Reach.Reach, who.Who.Who}
+use Rattle.touch.specs.{Reach.Reached, Reach.reach_of, Who.who_of, Who.starts_at_zero}
+use Rattle.touch.specs.declared.who.Who.{Who}
 use Rattle.touch.specs.declared.who.Who.TheVariants.{Cpu, Dma as General, Hdma}
 use Rattle.wording.specs.Words.{refusals, words_of}
-use Rattle.listing.specs.Line.{head_text, who_text, verb_text, spot_text, own_text, zero_text, shows, access_text}
+use Rattle.listing.specs.Line.{Lined, head_text, who_text, verb_text, spot_text, own_text, zero_text, shows, access_text}
 use Rattle.listing.specs.Cycle.{accesses_from, log_text, edge_text, cycle_text}
 use Rattle.listing.specs.Event.{held_text, origin_text, back_text, refused_text, end_text}
-use Rattle.listing.specs.declared.line.Line.{Line}
 
 -- a text of at most so many bytes
 abbrev pub Within : ℕ → List ℕ → Type 0
@@ -45,7 +44,7 @@ zero-most : (b : Bool) → Within 29 (zero_text b)
 zero-most b = pick_elim (Within 29) b (omega arith) (omega arith)
 
 -- an access
-pub access-most : (l : Line) (a : Access) (r : Reach) (mark : Bool) → Within 142 (access_text l a r mark)
+pub access-most : (l : Lined) (a : Access) (r : Reached) (mark : Bool) → Within 142 (access_text l a r mark)
 unfolding access_text
 access-most l a r mark =
     pick_elim (Within 142) (shows l.only r.spot)
@@ -61,7 +60,7 @@ access-most l a r mark =
     )))
     (omega arith)
 
-accesses-most : (l : Line) (w : WmAddress) (mark : Bool) (items : List Access) (n i : ℕ) → Within (n * 142) (accesses_from l w mark items n i)
+accesses-most : (l : Lined) (w : WmAddress) (mark : Bool) (items : List Access) (n i : ℕ) → Within (n * 142) (accesses_from l w mark items n i)
 unfolding accesses_from
 accesses-most l w mark items zero i = omega arith
 accesses-most l w mark items (suc n) i =
@@ -69,7 +68,7 @@ accesses-most l w mark items (suc n) i =
     let r = reach_of l.who w a in
     simp length-append (omega (arith, access-most l a r mark, accesses-most l r.after false items n (i + 1)))
 
-log-most : (l : Line) (w : WmAddress) (mark : Bool) (log : Log) → Within 1562 (log_text l w mark log)
+log-most : (l : Lined) (w : WmAddress) (mark : Bool) (log : Log) → Within 1562 (log_text l w mark log)
 unfolding log_text
 log-most l w mark log = omega (arith, accesses-most l w mark log.items (min log.count 11) 0)
 
@@ -84,7 +83,7 @@ edge-most row clock only edge =
 pub cycle-most : (row only : ℕ) (m : Machine) (log : Log) (edge : Bool) → Within 1618 (cycle_text row only m log edge)
 unfolding cycle_text
 cycle-most row only m log edge =
-    let l : Line = record { row = row; clock = m.board.clock; only = only; who = who_of m.dma } in
+    let l : Lined = record { row = row; clock = m.board.clock; only = only; who = who_of m.dma } in
     simp length-append
     (omega (arith, log-most l m.io.wmadd (starts_at_zero m) log, edge-most row m.board.clock only edge))
 

@@ -6,11 +6,10 @@ use Rattle.bus.specs.{Access.no_access, declared.access.Access.Access, Access.Lo
 use Rattle.registers.specs.declared.wm_address.WmAddress.{WmAddress}
 use Rattle.state.specs.declared.Machine.{Machine}
 use Rattle.touch.specs.{Reach.reach_of, Who.who_of, Who.starts_at_zero}
-use Rattle.listing.specs.Line.{head_text, access_text}
-use Rattle.listing.specs.declared.line.Line.{Line}
+use Rattle.listing.specs.Line.{Lined, head_text, access_text}
 
 -- n accesses from access i on, each with WMADD as the last left it; a mark stands on the first
-unfoldable pub accesses_from : Line → WmAddress → Bool → List Access → ℕ → ℕ → List ℕ
+unfoldable pub accesses_from : Lined → WmAddress → Bool → List Access → ℕ → ℕ → List ℕ
 accesses_from l w mark items zero i = []
 accesses_from l w mark items (suc n) i =
     let a = get_or items i no_access in
@@ -18,7 +17,7 @@ accesses_from l w mark items (suc n) i =
     access_text l a r mark ++ accesses_from l r.after false items n (i + 1)
 
 -- those of a log, at most eleven
-unfoldable pub log_text : Line → WmAddress → Bool → Log → List ℕ
+unfoldable pub log_text : Lined → WmAddress → Bool → Log → List ℕ
 log_text l w mark log = accesses_from l w mark log.items (min log.count 11) 0
 
 -- the edge, where every byte is looked at

@@ -4,9 +4,21 @@ use Rattle.common.specs.Pick.{pick}
 use Rattle.append.specs.Number.{padded, glyph_of, hex_byte}
 use Rattle.append.specs.Texts.{codes}
 use Rattle.bus.specs.declared.access.Access.{Access}
-use Rattle.touch.specs.declared.{reach.Reach.Reach, who.Who.Who}
+use Rattle.touch.specs.Reach.{Reached, spot_number}
+use Rattle.touch.specs.declared.who.Who.{Who}
 use Rattle.touch.specs.declared.who.Who.TheVariants.{Cpu, Dma as General, Hdma}
 use Rattle.listing.specs.declared.line.Line.{Line}
+
+-- where a line stands, who it is about, and the number of the one byte of work RAM that is looked at, 131,072 for all of them
+pub record Lined : Type 0 where
+  pub row : ℕ
+  pub clock : ℕ
+  pub only : ℕ
+  pub who : Who
+
+-- the same, of what the code has
+abbrev pub line_seen : Line → Lined
+line_seen l = record { row = l.row; clock = l.clock; only = spot_number l.only; who = l.who }
 
 -- the row in 5 columns, the clock in 10
 unfoldable pub head_text : ℕ → ℕ → List ℕ
@@ -48,7 +60,7 @@ abbrev pub shows : ℕ → ℕ → Bool
 shows only spot = eqb only 131072 || eqb only spot
 
 -- the whole line
-unfoldable pub access_text : Line → Access → Reach → Bool → List ℕ
+unfoldable pub access_text : Lined → Access → Reached → Bool → List ℕ
 access_text l a r zero =
     pick (shows l.only r.spot)
     (head_text l.row l.clock

@@ -3,6 +3,7 @@
 
 ghost use Rattle.std.specs.Prelude.{◌≡◌};
 ghost use Rattle.append.specs.Lent.{putting};
+ghost use Rattle.touch.specs.Reach.{spot_number};
 ghost use Rattle.listing.specs.Event.{held_text, origin_text, back_text, refused_text, end_text};
 
 use crate::line::head;
@@ -11,10 +12,10 @@ use wording::words;
 
 // Only where every byte of work RAM is looked at.
 #[tactic(auto, unfolding(append::specs::Sheet::puts, crate::specs::Event::held_text), using(append::proofs::Laws::texts))]
-pub fn put_held(out: &mut Sheet<'_>, row: u64, clock: u64, only: u32, held: u16, count: u16)
-    ensures { out.new ≡ putting out.old (held_text row clock only held count) }
+pub fn put_held(out: &mut Sheet<'_>, row: u64, clock: u64, only: Option<u32>, held: u16, count: u16)
+    ensures { out.new ≡ putting out.old (held_text row clock (spot_number only) held count) }
 {
-    if only == 131072 {
+    if only.is_none() {
         head(out, row, clock);
         out.put(b"CPU     held ");
         out.decimal(held as u64);
@@ -77,13 +78,13 @@ pub fn put_end(
     out: &mut Sheet<'_>,
     row: u64,
     clock: u64,
-    only: u32,
+    only: Option<u32>,
     number: u8,
     held: u16,
     done: u16,
     count: u16,
 )
-    ensures { out.new ≡ putting out.old (end_text row clock only number held done count) }
+    ensures { out.new ≡ putting out.old (end_text row clock (spot_number only) number held done count) }
 {
     if number != 0 {
         put_refused(out, row, clock, number);

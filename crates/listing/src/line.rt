@@ -3,7 +3,8 @@
 
 ghost use Rattle.std.specs.Prelude.{◌≡◌};
 ghost use Rattle.append.specs.Lent.{putting};
-ghost use Rattle.listing.specs.Line.{head_text, who_text, verb_text, address_text, place_text, spot_text, own_text, zero_text, shows, access_text};
+ghost use Rattle.touch.specs.Reach.{spot_number, reach_seen};
+ghost use Rattle.listing.specs.Line.{line_seen, head_text, who_text, verb_text, address_text, place_text, spot_text, own_text, zero_text, shows, access_text};
 
 use append::Sheet;
 use append::number::glyph;
@@ -11,12 +12,12 @@ use bus::access::Access;
 use touch::reach::Reach;
 use touch::who::Who;
 
-// Where a line stands and who it is about; `only` is the one byte of work RAM that is looked at, 131,072 for all of them.
+// Where a line stands and who it is about; `only` is the one byte of work RAM that is looked at, `None` for all of them.
 #[derive(Clone, Copy)]
 pub struct Line {
     pub row: u64,
     pub clock: u64,
-    pub only: u32,
+    pub only: Option<u32>,
     pub who: Who,
 }
 
@@ -88,13 +89,14 @@ fn put_place(out: &mut Sheet<'_>, spot: u32)
     out.hex_byte((spot % 256) as u8);
 }
 
-// The byte of work RAM, where there is one.
+// The byte of work RAM, where there is one: two banks of 65,536 bytes.
 #[tactic(auto, using(append::proofs::Laws::puts_none))]
-fn put_spot(out: &mut Sheet<'_>, spot: u32)
-    ensures { out.new ≡ putting out.old (spot_text spot) }
+fn put_spot(out: &mut Sheet<'_>, spot: Option<u32>)
+    ensures { out.new ≡ putting out.old (spot_text (spot_number spot)) }
 {
-    if spot < 131072 {
-        put_place(out, spot);
+    match spot {
+        Some(at) if at < 131072 => put_place(out, at),
+        _ => {}
     }
 }
 
@@ -118,15 +120,15 @@ fn put_zero(out: &mut Sheet<'_>, zero: bool)
 
 // Whether an access of a spot is listed: every one, or those of the one byte that is looked at.
 #[tactic(auto)]
-fn shows(only: u32, spot: u32) -> bool
-    ensures { result ≡ shows only spot }
+fn shows(only: Option<u32>, spot: Option<u32>) -> bool
+    ensures { result ≡ shows (spot_number only) (spot_number spot) }
 {
-    only == 131072 || only == spot
+    only.is_none() || only == spot
 }
 
 // The whole line, unless another byte of work RAM is looked at. `zero` marks the start of a transfer with byte count 0.
 pub fn put_access(out: &mut Sheet<'_>, l: Line, a: Access, r: Reach, zero: bool)
-    ensures { out.new ≡ putting out.old (access_text l a r zero) }
+    ensures { out.new ≡ putting out.old (access_text (line_seen l) a (reach_seen r) zero) }
 {
     if shows(l.only, r.spot) {
         head(out, l.row, l.clock);

@@ -17,7 +17,7 @@ use Rattle.bus.specs.declared.access.Access.{Access}
 use Rattle.listing.specs.{Cycle.cycle_text, Line.access_text}
 use Rattle.listing.specs.Event.{back_text, refused_text, end_text}
 use Rattle.state.specs.declared.Machine.{Machine}
-use Rattle.touch.specs.{Reach.reach_of, declared.reach.Reach.Reach, declared.who.Who.TheVariants.Cpu}
+use Rattle.touch.specs.{Reach.Reached, Reach.reach_of, declared.who.Who.TheVariants.Cpu}
 use Rattle.walk.specs.{Step.Stepping, Step.step_of, Call.Answered, declared.stand.Stand.Stand}
 use Rattle.moves.specs.Origin.{origin_of, noted}
 use Rattle.moves.specs.Steps.{Running, keeping, listed, stepped, steps}
@@ -30,7 +30,7 @@ module _ (s : Sheet) (row only : ℕ) (m : Machine) (a : Access) (number : ℕ) 
   unfolding cpu_text
   cpu-refused h p = rw h p
 
-  pub cpu-done : {t : Sheet} {r : Reach} → eqb number 0 ≡ true → r ≡ reach_of Cpu m.io.wmadd a
+  pub cpu-done : {t : Sheet} {r : Reached} → eqb number 0 ≡ true → r ≡ reach_of Cpu m.io.wmadd a
       → t ≡ puts s (access_text (record { row = row; clock = m.board.clock; only = only; who = Cpu }) a r false) → t ≡ puts s (cpu_text row only m a number)
   unfolding cpu_text
   cpu-done h p q = cc

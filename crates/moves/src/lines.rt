@@ -3,6 +3,7 @@
 
 ghost use Rattle.std.specs.Prelude.{◌≡◌};
 ghost use Rattle.append.specs.Lent.{putting};
+ghost use Rattle.touch.specs.Reach.{spot_number};
 ghost use Rattle.walk.specs.Call.{answered};
 ghost use Rattle.moves.specs.Text.{cpu_text, returned_text, step_text};
 
@@ -21,8 +22,8 @@ use walk::stand::Stand;
 
 // The access of a read or a write row, or its refusal.
 #[tactic(auto, unfolding(crate::specs::Text::cpu_text), using(std::proofs::lemmas::Bool::Decides::nat_tests))]
-fn put_cpu(out: &mut Sheet<'_>, row: u64, only: u32, before: Machine, access: Access, number: u8)
-    ensures { out.new ≡ putting out.old (cpu_text row only before access number) }
+fn put_cpu(out: &mut Sheet<'_>, row: u64, only: Option<u32>, before: Machine, access: Access, number: u8)
+    ensures { out.new ≡ putting out.old (cpu_text row (spot_number only) before access number) }
 {
     let clock = before.board.clock;
     if number != 0 {
@@ -61,7 +62,7 @@ fn put_returned(
 pub fn put_step(
     out: &mut Sheet<'_>,
     row: u64,
-    only: u32,
+    only: Option<u32>,
     before: Machine,
     says: Row,
     answer: Answer,
@@ -69,7 +70,7 @@ pub fn put_step(
     clock: u64,
     origin: u32,
 )
-    ensures { out.new ≡ putting out.old (step_text row only before says (answered answer) stand clock origin) }
+    ensures { out.new ≡ putting out.old (step_text row (spot_number only) before says (answered answer) stand clock origin) }
 {
     let number = number_of(answer.refusal);
     match says {

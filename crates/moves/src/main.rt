@@ -16,9 +16,6 @@ use steps::Run;
 use walk::stand::Stand;
 use write::write_script;
 
-// What `write_script` takes for every place: the number behind the last (`put_step`).
-const EVERY: u32 = 131072;
-
 // A file that cannot be run has no line.
 fn show(rt: HostRuntime, file: &[u8], only: Option<u32>) -> io::Result<()> {
     let mut low = [0u8; 65536];
@@ -51,7 +48,7 @@ fn show(rt: HostRuntime, file: &[u8], only: Option<u32>) -> io::Result<()> {
         used: 0,
     };
     let script = part(file, s.script.at, s.script.size);
-    write_script(&rt, &mut w, &mut origins, script, only.unwrap_or(EVERY))
+    write_script(&rt, &mut w, &mut origins, script, only)
 }
 
 fn with_place(rt: HostRuntime, only: Option<u32>) {

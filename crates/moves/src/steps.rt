@@ -1,5 +1,6 @@
 // A script listed step by step: a call, which row it came from, its lines.
 ghost use Rattle.std.specs.Prelude.{◌≡◌};
+ghost use Rattle.touch.specs.Reach.{spot_number};
 ghost use Rattle.moves.specs.Steps.{running, keeping, listed, stepped, steps};
 
 use crate::lines::put_step;
@@ -21,9 +22,9 @@ pub struct Run<'a> {
 }
 
 // The next call, of the row of that number. A back step leaves the slot of the operation that it took back as the next one.
-fn list_call(w: &mut Run<'_>, origins: &mut [u32], script: &[u8], only: u32, row: usize)
+fn list_call(w: &mut Run<'_>, origins: &mut [u32], script: &[u8], only: Option<u32>, row: usize)
     ensures same { w.new ≡ keeping w.old w.new }
-    ensures value { running w.new origins.new ≡ listed w.old.rig.rom.now script.now only row (running w.old origins.old) }
+    ensures value { running w.new origins.new ≡ listed w.old.rig.rom.now script.now (spot_number only) row (running w.old origins.old) }
 {
     let b = w.rig.bench;
     let stand = w.stand;
@@ -52,9 +53,9 @@ fn list_call(w: &mut Run<'_>, origins: &mut [u32], script: &[u8], only: u32, row
 }
 
 // One step more, unless there is none, a call was refused, or its lines, of 2,048 bytes at most, might have no room.
-fn step(w: &mut Run<'_>, origins: &mut [u32], script: &[u8], only: u32)
+fn step(w: &mut Run<'_>, origins: &mut [u32], script: &[u8], only: Option<u32>)
     ensures same { w.new ≡ keeping w.old w.new }
-    ensures value { running w.new origins.new ≡ stepped w.old.rig.rom.now script.now only (running w.old origins.old) }
+    ensures value { running w.new origins.new ≡ stepped w.old.rig.rom.now script.now (spot_number only) (running w.old origins.old) }
 {
     let at = w.stand.next;
     if script.len() / 8 <= at {
@@ -70,9 +71,9 @@ fn step(w: &mut Run<'_>, origins: &mut [u32], script: &[u8], only: u32)
 }
 
 // So many steps. One that cannot go on changes nothing.
-pub fn run_steps(w: &mut Run<'_>, origins: &mut [u32], script: &[u8], only: u32, count: u32)
+pub fn run_steps(w: &mut Run<'_>, origins: &mut [u32], script: &[u8], only: Option<u32>, count: u32)
     ensures same { w.new ≡ keeping w.old w.new }
-    ensures value { running w.new origins.new ≡ steps w.old.rig.rom.now script.now only count (running w.old origins.old) }
+    ensures value { running w.new origins.new ≡ steps w.old.rig.rom.now script.now (spot_number only) count (running w.old origins.old) }
 {
     for i in 0..count {
         step(w, origins, script, only);

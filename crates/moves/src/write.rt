@@ -10,7 +10,7 @@ pub fn write_script(
     w: &mut Run<'_>,
     origins: &mut [u32],
     script: &[u8],
-    only: u32,
+    only: Option<u32>,
 ) -> io::Result<()> {
     for turn in 0..536870912u64 {
         run_steps(w, origins, script, only, 65536);

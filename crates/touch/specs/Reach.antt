@@ -1,6 +1,6 @@
 -- What an access reaches (bus/src/bus.rs; Fullsnes, "Memory map", "WMADDL/M/H"): a byte of work RAM, by its address or through $2180, and
 -- WMADD after it; and whether a transfer's write falls on the registers of its own channel.
-use Rattle.std.specs.Prelude.{ℕ, ◌+◌, ◌/◌, Bool, false, Option, None, Some, ◌&&◌, List, [], ◌∷◌, eqb}
+use Rattle.std.specs.Prelude.{ℕ, ◌+◌, ◌/◌, Bool, false, Option, None, Some, ◌&&◌, List, [], ◌∷◌, eqb, ltb}
 use Rattle.common.specs.{Pick.pick, Word.with_lo, Word.with_hi}
 use Rattle.common.specs.Table.{Entry, at, find}
 use Rattle.registers.specs.{Groups.with_wm_address_bank, Groups.with_wm_address_addr, WmAdd.bank_from, WmAdd.stepped}
@@ -11,6 +11,21 @@ use Rattle.bus.specs.{Route.route_of, Route.place_of, declared.access.Access.Acc
 use Rattle.bus.specs.declared.route.Route.TheVariants.{Bank7E, Bank7F, Data, Registers, Cartridge}
 use Rattle.touch.specs.declared.{who.Who.Who, reach.Reach.Reach}
 use Rattle.touch.specs.declared.who.Who.TheVariants.{Cpu, Dma as General, Hdma}
+
+-- what an access reaches: a byte of work RAM by its number, the registers of its own channel, WMADD after it
+pub record Reached : Type 0 where
+  pub spot : ℕ
+  pub own : Bool
+  pub after : WmAddress
+
+-- the number of what code has as a byte's offset, if any: 131,072 is none, so an offset past the last byte stands one higher
+abbrev pub spot_number : Option ℕ → ℕ
+spot_number None = 131072
+spot_number (Some n) = pick (ltb n 131072) n (n + 1)
+
+-- the same, of what the code has
+abbrev pub reach_seen : Reach → Reached
+reach_seen r = record { spot = spot_number r.spot; own = r.own; after = r.after }
 
 -- the offset of a byte of work RAM, $7E:0000 first; 131,072 is no byte
 abbrev pub spot_of : Option Place → ℕ
@@ -55,7 +70,7 @@ wm_by Cartridge w a = w
 unfoldable pub wm_after : WmAddress → Access → WmAddress
 wm_after w a = wm_by (route_of a.bank a.addr) w a
 
-unfoldable pub reach_of : Who → WmAddress → Access → Reach
+unfoldable pub reach_of : Who → WmAddress → Access → Reached
 reach_of who w a =
     let way = route_of a.bank a.addr in
     record { spot = spot_of (place_of w way a.addr); own = own_of who way a; after = wm_after w a }

@@ -1,6 +1,6 @@
 // What an access reaches: a byte of work RAM, WMADD, its own channel's registers.
 ghost use Rattle.std.specs.Prelude.{◌≡◌};
-ghost use Rattle.touch.specs.Reach.{spot_of, own_by, own_of, wm_written, wm_by, reach_of};
+ghost use Rattle.touch.specs.Reach.{spot_number, spot_of, own_by, own_of, wm_written, wm_by, reach_seen, reach_of};
 
 use crate::who::Who;
 use bus::access::Access;
@@ -9,21 +9,21 @@ use common::u16_split::{with_high, with_low};
 use registers::wm_address::{WmAddBank, WmAddress, inc};
 use wram::Place;
 
-// `spot` is the byte's offset in work RAM, 131,072 for none; `after` is WMADD after the access.
+// `spot` is the byte's offset in work RAM, where there is one; `after` is WMADD after the access.
 #[derive(Clone, Copy)]
 pub struct Reach {
-    pub spot: u32,
+    pub spot: Option<u32>,
     pub own: bool,
     pub after: WmAddress,
 }
 
-fn spot(place: Option<Place>) -> u32
-    ensures { result ≡ spot_of place }
+fn spot(place: Option<Place>) -> Option<u32>
+    ensures { spot_number result ≡ spot_of place }
 {
     match place {
-        None => 131072,
-        Some(Place::Bank7E(addr)) => addr as u32,
-        Some(Place::Bank7F(addr)) => addr as u32 + 65536,
+        None => None,
+        Some(Place::Bank7E(addr)) => Some(addr as u32),
+        Some(Place::Bank7F(addr)) => Some(addr as u32 + 65536),
     }
 }
 
@@ -57,11 +57,11 @@ fn wm_written(w: WmAddress, addr: u16, byte: u8) -> WmAddress
     let bank = w.bank;
     match addr {
         0x2181 => WmAddress {
-            bank: bank,
+            bank,
             addr: with_low(w.addr, byte),
         },
         0x2182 => WmAddress {
-            bank: bank,
+            bank,
             addr: with_high(w.addr, byte),
         },
         0x2183 => {
@@ -94,7 +94,7 @@ fn wm_after(w: WmAddress, way: Route, a: Access) -> WmAddress
 
 // WMADD as it stood says which byte $2180 reached.
 pub fn reached(who: Who, w: WmAddress, a: Access) -> Reach
-    ensures { result ≡ reach_of who w a }
+    ensures { reach_seen result ≡ reach_of who w a }
 {
     let way = route_of(a.bank, a.addr);
     let place = place_of(w, way, a.addr);
@@ -103,7 +103,7 @@ pub fn reached(who: Who, w: WmAddress, a: Access) -> Reach
     let after = wm_after(w, way, a);
     Reach {
         spot: at,
-        own: own,
-        after: after,
+        own,
+        after,
     }
 }

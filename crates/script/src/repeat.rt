@@ -114,6 +114,7 @@ fn back_step(rig: &mut Rig<'_>, s: Ran) -> Ran
     }
 }
 
+// A loop of its own, as `run_cycles` has: one loop for both would ask of each call, in its contract, all that it leaves of the rig.
 pub fn run_backs(rig: &mut Rig<'_>, count: u16) -> Ran
     ensures same { rig.new ≡ holding rig.old (desk_of rig.new) }
     ensures value { ran result rig.new ≡ backs_run count (desk_of rig.old) }

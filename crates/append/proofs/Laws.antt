@@ -11,7 +11,7 @@ use Rattle.std.proofs.lemmas.Grind.{flat_map-append}
 use Rattle.std.proofs.lemmas.List.{replicate-append-replicate}
 use borrow.Author.Tests.{lt-ltb}
 use Rattle.append.specs.Sheet.{Sheet, sheet, push, puts, shown_of}
-use Rattle.append.specs.Lent.{holding, shown, putting}
+use Rattle.append.specs.Lent.{holding, shown, keeping, putting}
 use Rattle.append.specs.declared.Sheet.{Sheet as Lent}
 use Rattle.append.specs.Texts.{each}
 
@@ -86,6 +86,10 @@ put_no_numbers s f k = refl
 -- the text of one number more
 pub put_more_numbers : (s : Sheet) (f : ℕ → List ℕ) (n : ℕ) → foldl push s (each f (n + 1) 0) ≡ foldl push (foldl push s (each f n 0)) (f n)
 put_more_numbers s f n = rw (add-one, each_last f n 0, zero-add) (foldl-append push s (each f n 0) (f n))
+
+-- a sheet that a run goes on with is still the same buffer
+pub then_kept : (s t u : Lent) → t ≡ keeping s t → u ≡ keeping t u → u ≡ keeping s u
+then_kept s t u e f = f ∙ ap (λ (x : Lent). keeping x u) e
 
 -- the same of a lent sheet: two texts put, one after the other
 pub put_then : (s : Lent) {t u : Lent} (a b : List ℕ) → t ≡ putting s a → u ≡ putting t b → u ≡ putting s (a ++ b)

@@ -12,6 +12,10 @@ shown s = plain.sheet s.text.now s.at
 abbrev pub holding : Sheet → plain.Sheet → Sheet
 holding s p = record s { text = record s.text { now = p.text }; at = p.at }
 
+-- the same buffer, with what another has in it
+abbrev pub keeping : Sheet → Sheet → Sheet
+keeping s t = holding s (shown t)
+
 -- with one byte more
 abbrev pub pushed : Sheet → ℕ → Sheet
 pushed s c = holding s (plain.push (shown s) c)

@@ -3,7 +3,7 @@
 
 pub mod number;
 
-ghost use Rattle.std.specs.Prelude.{◌+◌, ◌≡◌, leb};
+ghost use Rattle.std.specs.Prelude.{◌+◌, ◌≡◌, leb, length};
 
 // A lent buffer, and the place of the next byte in it.
 #[derive(Drop)]
@@ -47,11 +47,11 @@ impl<'a> Sheet<'a> {
             self.text
         }
     }
-}
 
-// Whether `need` more bytes have room behind the `used` ones.
-pub fn has_room(used: usize, need: usize, room: usize) -> bool
-    ensures { result ≡ leb (used + need) room }
-{
-    need <= room && used <= room - need
+    // Whether `need` more bytes have room.
+    pub fn has_room(&self, need: usize) -> bool
+        ensures { result ≡ leb (self.now.at + need) (length self.now.text.now) }
+    {
+        need <= self.text.len() && self.at <= self.text.len() - need
+    }
 }

@@ -1,6 +1,6 @@
 // Why a call refuses: the lines of document 01's table, and 13 and 14 of document 02, in their order.
 ghost use Rattle.std.specs.Prelude.{◌≡◌};
-ghost use Rattle.common.specs.Refusal.{refusal_number};
+ghost use Rattle.common.specs.Refusal.{refusal_number, number_of};
 
 #[derive(Clone, Copy, Debug, PartialEq, Eq)]
 pub enum Refusal {
@@ -25,5 +25,15 @@ impl Refusal {
         ensures { result ≡ refusal_number self }
     {
         self as u8
+    }
+}
+
+// The number of what may refuse: 0 where nothing does.
+pub fn number_of(refusal: Option<Refusal>) -> u8
+    ensures { result ≡ number_of refusal }
+{
+    match refusal {
+        Some(r) => r.number(),
+        None => 0,
     }
 }

@@ -1,7 +1,8 @@
 -- A script listed step by step (docs/MOVES.md): it stops after a refusal; a step is made only where 2,048 bytes have room.
 use Rattle.std.specs.Prelude.{ℕ, zero, suc, ◌+◌, ◌/◌, ◌&&◌, not, List, leb, eqb, length, get_or}
 use Rattle.common.specs.Pick.{pick}
-use Rattle.append.specs.Sheet.{Sheet, sheet, puts}
+use Rattle.append.specs.Sheet.{Sheet, puts}
+use Rattle.append.specs.Lent as lent
 use Rattle.bench.specs.Calls.{Desk}
 use Rattle.common.specs.Refusal.{number_of}
 use Rattle.script.specs.Rig.{desk_of, holding}
@@ -20,11 +21,11 @@ pub record Running : Type 0 where
 
 -- the same, of what the code has
 abbrev pub running : Run → List ℕ → Running
-running w o = record { desk = desk_of w.rig; origins = o; stand = w.stand; number = number_of w.refusal; sheet = sheet w.out.now w.used }
+running w o = record { desk = desk_of w.rig; origins = o; stand = w.stand; number = number_of w.refusal; sheet = lent.shown w.out }
 
 -- the same slices lent, with what another has in them
 abbrev pub keeping : Run → Run → Run
-keeping w v = record v { rig = holding w.rig (desk_of v.rig); out = record w.out { now = v.out.now } }
+keeping w v = record v { rig = holding w.rig (desk_of v.rig); out = lent.keeping w.out v.out }
 
 -- the origins with an accepted operation noted; a back step is none
 abbrev pub origins_by : ℕ → Running → Stepping → List ℕ

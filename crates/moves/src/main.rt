@@ -6,6 +6,7 @@ mod origin;
 mod steps;
 mod write;
 
+use append::Sheet;
 use fields::part::part;
 use input::complaint::{refused, say};
 use input::{BENCH, argument_count, place_given, run_on_input};
@@ -44,8 +45,10 @@ fn show(rt: HostRuntime, file: &[u8], only: Option<u32>) -> io::Result<()> {
             held: 0,
         },
         refusal: None,
-        out: &mut out,
-        used: 0,
+        out: Sheet {
+            text: &mut out,
+            at: 0,
+        },
     };
     let script = part(file, s.script.at, s.script.size);
     write_script(&rt, &mut w, &mut origins, script, only)

@@ -5,20 +5,19 @@ ghost use Rattle.moves.specs.Steps.{running, keeping, listed, stepped, steps};
 
 use crate::lines::put_step;
 use crate::origin::{note, origin_at, origin_of};
-use append::{Sheet, has_room};
+use append::Sheet;
 use common::refusal::Refusal;
 use script::rig::Rig;
 use walk::stand::Stand;
 use walk::step::next_call;
 
-// What the calls go on, where the script stands, the refusal of the last call, if it was refused, and the buffer with how many of its bytes are text.
+// What the calls go on, where the script stands, the refusal of the last call, if it was refused, and the text.
 #[derive(Drop)]
 pub struct Run<'a> {
     pub rig: Rig<'a>,
     pub stand: Stand,
     pub refusal: Option<Refusal>,
-    pub out: &'a mut [u8],
-    pub used: usize,
+    pub out: Sheet<'a>,
 }
 
 // The next call, of the row of that number. A back step leaves the slot of the operation that it took back as the next one.
@@ -39,15 +38,9 @@ fn list_call(w: &mut Run<'_>, origins: &mut [u32], script: &[u8], only: Option<u
     let after = w.rig.bench;
     let origin = origin_at(origins, after.slot);
     let clock = after.machine.board.clock;
-    let used = w.used;
-    let mut text = Sheet {
-        text: w.out,
-        at: used,
-    };
     put_step(
-        &mut text, row as u64, only, b.machine, s.says, s.answer, s.stand, clock, origin,
+        &mut w.out, row as u64, only, b.machine, s.says, s.answer, s.stand, clock, origin,
     );
-    w.used = text.at;
     w.stand = s.next;
     w.refusal = s.answer.refusal;
 }
@@ -64,7 +57,7 @@ fn step(w: &mut Run<'_>, origins: &mut [u32], script: &[u8], only: Option<u32>)
     if w.refusal.is_some() {
         return;
     }
-    if !has_room(w.used, 2048, w.out.len()) {
+    if !w.out.has_room(2048) {
         return;
     }
     list_call(w, origins, script, only, at + 1);

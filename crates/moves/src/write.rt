@@ -1,6 +1,5 @@
 // The lines of a script on standard output.
 use crate::steps::{Run, run_steps};
-use fields::part::part;
 use std::io;
 
 // All steps of a script. What the buffer has goes out after so many steps or when the next might have no room. A file has fewer than 2^13 rows
@@ -14,9 +13,8 @@ pub fn write_script(
 ) -> io::Result<()> {
     for turn in 0..536870912u64 {
         run_steps(w, origins, script, only, 65536);
-        let used = w.used;
-        rt.write_all(part(w.out, 0, used))?;
-        w.used = 0;
+        rt.write_all(w.out.written())?;
+        w.out.at = 0;
         if w.refusal.is_some() | (script.len() / 8 <= w.stand.next) {
             break;
         }

@@ -28,7 +28,10 @@ fn show(rt: HostRuntime, file: &[u8], page: u16) -> io::Result<()> {
     let mut low = [0u8; 65536];
     let mut high = [0u8; 65536];
     let mut entries = [0u8; 65536];
-    let mut line = [0u8; 105];
+    let mut lines = Sheet {
+        text: &mut [0u8; 105],
+        at: 0,
+    };
     let s = match begin(file, &mut low, &mut high) {
         Ok(s) => s,
         Err(refusal) => {
@@ -44,7 +47,7 @@ fn show(rt: HostRuntime, file: &[u8], page: u16) -> io::Result<()> {
         rom: part(file, s.rom.at, s.rom.size),
     };
     let script = part(file, s.script.at, s.script.size);
-    let e = run_rows(&mut rig, script, 0, Show::Nothing, &mut line);
+    let e = run_rows(&mut rig, script, 0, Show::Nothing, &mut lines);
     if let Some(refusal) = e.refusal {
         refused(rt, b"page", e.next, refusal.number());
     }

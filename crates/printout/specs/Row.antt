@@ -3,10 +3,12 @@ use Rattle.std.specs.Prelude.{ℕ, List, []}
 use Rattle.bench.specs.Calls.{Desk}
 use Rattle.fields.specs.Bytes.{byte_at}
 use Rattle.benchfile.specs.Row.{row_of}
-use Rattle.script.specs.{Run.Running, Run.ran, Row.row_run, declared.rig.Rig.Rig}
-use Rattle.append.specs.Sheet.{Sheet, sheet, puts}
+use Rattle.script.specs.{Run.Running, Run.ran, Row.row_run, declared.repeat.Ran.Ran, declared.rig.Rig.Rig}
+use Rattle.append.specs.Sheet.{Sheet, puts}
+use Rattle.append.specs.Lent as lent
+use Rattle.append.specs.declared.Sheet.{Sheet as Lent}
 use Rattle.wording.specs.Line.{line_text, sum_text}
-use Rattle.printout.specs.declared.{row.Lined.Lined, row.Show.Show, row.Show.TheVariants.Nothing, row.Show.TheVariants.Line, row.Show.TheVariants.Sum}
+use Rattle.printout.specs.declared.{row.Show.Show, row.Show.TheVariants.Nothing, row.Show.TheVariants.Line, row.Show.TheVariants.Sum}
 
 -- what a row has come to, and the buffer with what is shown of it
 pub record Shown : Type 0 where
@@ -14,8 +16,8 @@ pub record Shown : Type 0 where
   pub out : Sheet
 
 -- the same, of what the code returns, what it ran on and the buffer
-abbrev pub shown : Lined → Rig → List ℕ → Shown
-shown r g out = record { ran = ran r.ran g; out = sheet out r.used }
+abbrev pub shown : Ran → Rig → Lent → Shown
+shown r g out = record { ran = ran r g; out = lent.shown out }
 
 -- nothing for a page, a line for a trace, the sum beside the machine for the sums
 unfoldable pub shown_text : Show → (row kind number a b sum : ℕ) → List ℕ

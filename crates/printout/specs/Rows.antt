@@ -4,6 +4,8 @@ use Rattle.common.specs.Pick.{pick}
 use Rattle.bench.specs.Calls.{Desk}
 use Rattle.benchfile.specs.Row.{row_bytes}
 use Rattle.append.specs.Sheet.{Sheet, sheet}
+use Rattle.append.specs.Lent as lent
+use Rattle.append.specs.declared.Sheet.{Sheet as Lent}
 use Rattle.common.specs.Refusal.{number_of}
 use Rattle.script.specs.{Rig.desk_of, declared.rig.Rig.Rig}
 use Rattle.printout.specs.{Row.Shown, Row.row_shown, declared.row.Show.Show, declared.rows.Stand.Stand}
@@ -16,8 +18,8 @@ pub record Standing : Type 0 where
   pub out : Sheet
 
 -- the same, of what the code returns, what it ran on and the buffer
-abbrev pub standing : Stand → Rig → List ℕ → Standing
-standing s g out = record { desk = desk_of g; next = s.next; number = number_of s.refusal; out = sheet out s.used }
+abbrev pub standing : Stand → Rig → Lent → Standing
+standing s g out = record { desk = desk_of g; next = s.next; number = number_of s.refusal; out = lent.shown out }
 
 -- before row `first`, with no text yet
 abbrev pub start : Desk → ℕ → List ℕ → Standing

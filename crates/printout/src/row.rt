@@ -1,31 +1,24 @@
 // A script row run on a bench, with what is shown of it.
 ghost use Rattle.std.specs.Prelude.{◌≡◌};
 ghost use Rattle.script.specs.Rig.{desk_of, holding};
-ghost use Rattle.append.specs.Sheet.{sheet};
-ghost use Rattle.append.specs.Lent.{putting};
+ghost use Rattle.append.specs.Lent.{shown as text_in, keeping, putting};
 ghost use Rattle.printout.specs.Row.{shown_text, shown, row_shown};
 
 use append::Sheet;
 use benchfile::row::row_of;
+use common::refusal::number_of;
 use fields::word::byte;
-use script::repeat::{Ran, number_of};
+use script::repeat::Ran;
 use script::rig::Rig;
 use script::row::run_row;
 use wording::line::{append_line, append_sum};
 
-// What is shown of a row.
+// What is shown of a row. It is no step that a caller hands down: `part-text` and `goes_on` (proofs/Whole.antt) speak of all three cases.
 #[derive(Clone, Copy)]
 pub enum Show {
     Nothing,
     Line,
     Sum,
-}
-
-// What a row has come to, and how many bytes of the buffer are text with what is shown of it.
-#[derive(Clone, Copy)]
-pub struct Lined {
-    pub ran: Ran,
-    pub used: usize,
 }
 
 #[tactic(auto, unfolding(crate::specs::Row::shown_text), using(append::proofs::Laws::puts_none))]
@@ -50,26 +43,16 @@ fn put_shown(
 
 // Runs the row of these 8 bytes, the `number`th of its script.
 #[tactic(auto, unfolding(crate::specs::Row::row_shown))]
-pub fn run_line(
-    rig: &mut Rig<'_>,
-    row: &[u8],
-    number: u64,
-    show: Show,
-    out: &mut [u8],
-    used: usize,
-) -> Lined
+pub fn run_line(rig: &mut Rig<'_>, row: &[u8], number: u64, show: Show, out: &mut Sheet<'_>) -> Ran
     ensures same { rig.new ≡ holding rig.old (desk_of rig.new) }
-    ensures value { shown result rig.new out.new ≡ row_shown rig.old.rom.now row.now number show (desk_of rig.old) (sheet out.old used) }
+    ensures kept { out.new ≡ keeping out.old out.new }
+    ensures value { shown result rig.new out.new ≡ row_shown rig.old.rom.now row.now number show (desk_of rig.old) (text_in out.old) }
 {
     let kind = byte(row, 0);
     let ran = run_row(rig, row_of(row));
-    let mut text = Sheet {
-        text: out,
-        at: used,
-    };
     let refused = number_of(ran.refusal);
     put_shown(
-        &mut text,
+        out,
         show,
         number,
         kind,
@@ -78,5 +61,5 @@ pub fn run_line(
         ran.b,
         rig.bench.sum,
     );
-    Lined { ran, used: text.at }
+    ran
 }

@@ -1,6 +1,5 @@
 // A row of several calls: cycles, or back steps. It stops at the first refusal; the calls before it stay done.
 ghost use Rattle.std.specs.Prelude.{◌≡◌};
-ghost use Rattle.common.specs.Refusal.{number_of};
 ghost use Rattle.script.specs.Rig.{desk_of, holding};
 ghost use Rattle.script.specs.Run.{ran, first_of, first_flag, plus_one, cycle_step, cycles_run, back_step, backs_run};
 
@@ -15,16 +14,6 @@ pub struct Ran {
     pub refusal: Option<Refusal>,
     pub a: u32,
     pub b: u32,
-}
-
-// Document 01's number of a refusal, or 0.
-pub fn number_of(refusal: Option<Refusal>) -> u8
-    ensures { result ≡ number_of refusal }
-{
-    match refusal {
-        Some(r) => r.number(),
-        None => 0,
-    }
 }
 
 // Event and flags hold for the first cycle of a row.
@@ -125,6 +114,7 @@ fn back_step(rig: &mut Rig<'_>, s: Ran) -> Ran
     }
 }
 
+// A loop of its own, as `run_cycles` has: one loop for both would ask of each call, in its contract, all that it leaves of the rig.
 pub fn run_backs(rig: &mut Rig<'_>, count: u16) -> Ran
     ensures same { rig.new ≡ holding rig.old (desk_of rig.new) }
     ensures value { ran result rig.new ≡ backs_run count (desk_of rig.old) }

@@ -7,9 +7,9 @@ use printout::output::write_sums;
 use std::io;
 
 fn show(rt: HostRuntime, file: &[u8]) -> io::Result<()> {
-    let w = write_sums(&rt, file)?;
-    if let Some(refusal) = w.refusal {
-        refused(rt, b"sums", w.rows, refusal.number());
+    let s = write_sums(&rt, file)?;
+    if let Some(refusal) = s.refusal {
+        refused(rt, b"sums", s.next, refusal.number());
     }
     Ok(())
 }

@@ -1,4 +1,5 @@
 // One operation taken back: the newest entry restores the machine and the bytes that were overwritten. No record byte is written.
+// Banks and record come apart, as the C interface lends them.
 ghost use Rattle.std.specs.Prelude.{◌≡◌};
 ghost use Rattle.bench.specs.Calls.{desk, plain_out, back_call};
 

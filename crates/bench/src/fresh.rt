@@ -27,7 +27,7 @@ pub fn no_bench() -> Bench
     empty_bench(0, 1, 0)
 }
 
-// The banks are only looked at, and added up once.
+// The banks, apart as the C interface lends them, are only looked at, and added up once.
 pub fn fresh(low: &[u8], high: &[u8], length: usize, bitcycles: u16) -> Result<Bench, Refusal>
     ensures { fresh_out result ≡ fresh_call low.now high.now length bitcycles }
 {

@@ -1,4 +1,5 @@
-// The six operations: cycle, read, write, pad, plug and port answer. A refused one leaves all that was lent as it was.
+// The six operations: cycle, read, write, pad, plug and port answer. A refused one leaves all that was lent as it was. Banks, record and
+// ROM come apart, as the C interface lends them.
 ghost use Rattle.std.specs.Prelude.{◌≡◌};
 ghost use Rattle.bench.specs.Calls.{desk, event_of, cycle_out, cycle_call, read_out, read_call, write_out, write_call, plain_out, pad_call, plug_call, answer_call};
 ghost use Rattle.ring.specs.Slots.{noting, noted};

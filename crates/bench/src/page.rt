@@ -1,4 +1,4 @@
-// A look at a page of work RAM: 256 bytes of whichever bank holds it.
+// A look at a page of work RAM: 256 bytes of whichever bank holds it. The banks come apart, as the C interface lends them.
 ghost use Rattle.std.specs.Prelude.{◌≡◌, length};
 ghost use Rattle.bench.specs.Page.{page_call};
 ghost use Rattle.common.specs.Refusal.{result_number, result_bytes};

@@ -168,7 +168,8 @@ fn put_moved(out: &mut [u8], edge: bool, trip: Trip, byte: u8)
     put(out, ACCESSES, &b);
 }
 
-// All that the byte depends on is read first; the entry is noted before the image moves on.
+// All that the byte depends on is read first; the entry is noted before the image moves on. What is lent comes apart, as the exported call
+// has it.
 pub fn carry(
     machine: &mut [u8],
     low: &mut [u8],

@@ -15,7 +15,7 @@ use layout::{ENTRY_SIZE, IMAGE_SIZE};
 // The longest line that there is room for.
 pub const LINE: usize = 16384;
 
-// Why the call was refused, if it was; whether all stayed as it was, and the call said nothing else; the line.
+// Why the call was refused, if it was; whether all stayed as it was, and the call said nothing else, refused or not; the line.
 #[derive(Clone, Copy)]
 pub struct Told<'a> {
     pub refusal: Option<Refusal>,
@@ -69,7 +69,7 @@ fn accesses(line: &mut Sheet<'_>, log: Log) {
     }
 }
 
-// The page that a page look hands back.
+// The page that a page look of both banks hands back.
 fn look(line: &mut Sheet<'_>, l: Listed, low: &[u8; BANK], high: &[u8; BANK]) {
     let Call::Page(page) = l.call else {
         return;

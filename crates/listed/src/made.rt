@@ -63,7 +63,7 @@ fn row_made(row: Row, r: Ran, after: [u8; MACHINE_SIZE]) -> Made {
     }
 }
 
-// A page look gives its number; its bytes are looked at by themselves.
+// A page look gives its number; its bytes are looked at by themselves. Banks and record come apart, since the list names a length for each.
 fn make(
     s: [u8; MACHINE_SIZE],
     l: Listed,

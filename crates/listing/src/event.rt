@@ -72,7 +72,8 @@ pub fn put_refused(out: &mut Sheet<'_>, row: u64, clock: u64, number: u8)
     }
 }
 
-// The end of a row of cycles: a refusal, or after the last cycle how many were held.
+// The end of a row of cycles: a refusal, or after the last cycle how many were held. A refusal is a number, 0 for none: `words` has words for
+// any number, and a Refusal would ask more of the caller.
 #[tactic(auto, unfolding(append::specs::Sheet::puts, crate::specs::Event::end_text), using(std::proofs::lemmas::Bool::Decides::nat_tests))]
 pub fn put_end(
     out: &mut Sheet<'_>,

@@ -8,6 +8,7 @@ use registers::write::irq_disabled;
 use signals::auto_joypad::{start_auto_joypad, step_auto_joypad};
 use signals::flags::{set_hblank, set_nmi_flag, set_timeup_flag, set_vblank};
 
+// The published events, one enum: `Nothing` is its `None`.
 #[derive(Clone, Copy, PartialEq, Eq, Debug)]
 pub enum Event {
     Nothing,

@@ -1,4 +1,5 @@
-// The exported functions. Each reads the machine from its bytes, makes the call, and writes the machine back where it was accepted.
+// The exported functions. Each reads the machine from its bytes, makes the call, and writes the machine back where it was accepted. C has
+// none of our types: each slice and each number is a parameter, and a refusal is its number.
 ghost use Rattle.std.specs.Prelude.{◌≡◌, [], length};
 ghost use Rattle.asbytes.specs.Crossed.{crossed, cycle_crossed};
 ghost use Rattle.asbytes.specs.Machine.{bench_of};

@@ -1,4 +1,5 @@
-// What a line of the text may be, what may come next in it, and what a character completes.
+// What a line of the text may be, what may come next in it, and what a character completes. `Nothing` is a case beside the others, at the
+// start of an order or of the rows' numbers, and no Option of them.
 
 // What of a bench the text has said.
 #[derive(Clone, Copy, PartialEq, Eq, PartialOrd, Ord, Debug)]

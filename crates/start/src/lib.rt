@@ -38,7 +38,7 @@ fn section_span(file: &[u8], section: u8) -> Span
     }
 }
 
-// A broken file is refused before anything is filled; fresh then finds the banks as the run will.
+// A broken file is refused before anything is filled; fresh then finds the banks as the run will, and takes them apart as here.
 pub fn begin(file: &[u8], low: &mut [u8], high: &mut [u8]) -> Result<Started, Refusal>
     ensures { answered result low.new high.new ≡ start_run file.now low.old high.old }
 {

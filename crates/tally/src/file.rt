@@ -1,4 +1,4 @@
-// The count of a bench file.
+// The count of a bench file. What is lent comes apart: a Rig has a bench and a ROM, and both come of the file here.
 ghost use Rattle.std.specs.Prelude.{◌≡◌};
 ghost use Rattle.tally.specs.File.{halt_of, file_ran, file_run, file_counting, file_count};
 

@@ -8,7 +8,8 @@ use bus::access::Log;
 use state::DmaState;
 use touch::who::Who;
 
-// The channel that had the bus, with its general bytes, units and table bytes; the number of the DMA state after, and 1 where held.
+// The channel that had the bus, with its general bytes, units and table bytes; the number of the DMA state after, and 1 where held. The
+// state is a number, since `count` takes any, modulo 4.
 #[derive(Clone, Copy)]
 pub struct Share {
     pub channel: u64,

@@ -18,6 +18,7 @@ fn bank_sum(bank: &[u8]) -> u32
     sum
 }
 
+// Banks that are only looked at; a Ram would borrow them to write.
 #[tactic(auto, unfolding(crate::specs::Sum::ram_sum))]
 pub fn ram_sum(low: &[u8], high: &[u8]) -> u32
     ensures { result ≡ ram_sum (banks low.now high.now) }

@@ -39,7 +39,7 @@ pub struct WriteAnswer {
     pub cost: u8,
 }
 
-// Document 01's numbers for the events.
+// Document 01's numbers for the events. No `TryFrom` that refuses: `cycle_allowed` has refused the others in the table's order.
 fn event_of(event: u8) -> Event
     ensures { result ≡ event_of event }
 {
@@ -80,7 +80,7 @@ pub fn cycle(
     })
 }
 
-// A byte from the bus, and its cost.
+// A byte from the bus, and its cost. `bank` and `addr` come apart here and in `write`, as the C interface has them.
 pub fn read(
     b: Bench,
     low: &mut [u8],
@@ -93,6 +93,7 @@ pub fn read(
     ensures { read_out b result low.new high.new entries.new ≡ read_call rom.now (desk b low.old high.old entries.old) bank addr }
 {
     lent(b, low.len(), high.len(), entries.len(), rom.len())?;
+    let at = SnesAddress { bank, addr };
     let io = b.machine.io;
     let mut ram = Ram { low, high };
     let mut bus = Bus {
@@ -100,14 +101,14 @@ pub fn read(
         ram: &mut ram,
         rom,
     };
-    let byte = bus.read(SnesAddress { bank, addr });
+    let byte = bus.read(at);
     let core = bus.core;
     let sum = bus.ram.sum_after(b.sum, core.olds);
     let bench = note(b, entries, with_io(b.machine, core.io), core.olds, sum);
     Ok(ReadAnswer {
         bench,
         byte,
-        cost: bus::speed::cost(io.enables.memsel, bank, addr),
+        cost: bus::speed::cost(io.enables.memsel, at),
     })
 }
 
@@ -125,6 +126,7 @@ pub fn write(
     ensures { write_out b result low.new high.new entries.new ≡ write_call rom.now (desk b low.old high.old entries.old) bank addr byte }
 {
     lent(b, low.len(), high.len(), entries.len(), rom.len())?;
+    let at = SnesAddress { bank, addr };
     let io = b.machine.io;
     let mut ram = Ram { low, high };
     let mut bus = Bus {
@@ -132,13 +134,13 @@ pub fn write(
         ram: &mut ram,
         rom,
     };
-    bus.write(SnesAddress { bank, addr }, byte);
+    bus.write(at, byte);
     let core = bus.core;
     let sum = bus.ram.sum_after(b.sum, core.olds);
     let bench = note(b, entries, with_io(b.machine, core.io), core.olds, sum);
     Ok(WriteAnswer {
         bench,
-        cost: bus::speed::cost(io.enables.memsel, bank, addr),
+        cost: bus::speed::cost(io.enables.memsel, at),
     })
 }
 

@@ -4,6 +4,7 @@ ghost use Rattle.bus.specs.Access.{no_log, opened, data_stepped, io_written, reg
 
 use crate::route::Route;
 use common::counted::Counted;
+use common::snes_address::SnesAddress;
 use registers::Io;
 use registers::read::IoRead;
 use registers::wm_address::inc;
@@ -77,8 +78,8 @@ pub fn write_io(io: Io, way: Route, addr: u16, byte: u8) -> Io
 
 // What a read gives and does to the registers; `byte` is what work RAM holds at the place, if it has one.
 #[tactic(auto, unfolding(crate::specs::Access::register_read))]
-pub fn read_io(io: Io, rom: &[u8], way: Route, bank: u8, addr: u16, byte: u8) -> IoRead
-    ensures { result ≡ register_read rom.now io way bank addr byte }
+pub fn read_io(io: Io, rom: &[u8], way: Route, at: SnesAddress, byte: u8) -> IoRead
+    ensures { result ≡ register_read rom.now io way at.bank at.addr byte }
 {
     match way {
         Route::Bank7E | Route::Bank7F => IoRead { io, byte },
@@ -86,10 +87,10 @@ pub fn read_io(io: Io, rom: &[u8], way: Route, bank: u8, addr: u16, byte: u8) ->
             io: step_data(io, byte),
             byte,
         },
-        Route::Registers => registers::read::read(io, addr),
+        Route::Registers => registers::read::read(io, at.addr),
         Route::Cartridge => IoRead {
             io,
-            byte: cartridge::read(rom, bank, addr, io.openbus),
+            byte: cartridge::read(rom, at, io.openbus),
         },
     }
 }

@@ -22,10 +22,10 @@ impl<'a, 'b> Bus<'a, 'b> {
         ensures byte { result ≡ (read_at self.old.rom.now (world_on self.old) at.bank at.addr).byte }
         ensures after { self.new ≡ holding self.old (read_at self.old.rom.now (world_on self.old) at.bank at.addr).world }
     {
-        let way = route_of(at.bank, at.addr);
+        let way = route_of(at);
         let place = place_of(self.core.io.wmadd, way, at.addr);
         let held = self.ram.peek(place);
-        let got = read_io(self.core.io, self.rom, way, at.bank, at.addr, held);
+        let got = read_io(self.core.io, self.rom, way, at, held);
         self.core.io = got.io;
         self.core.log = self.core.log.push(Access {
             write: false,
@@ -40,7 +40,7 @@ impl<'a, 'b> Bus<'a, 'b> {
     pub fn write(&mut self, at: SnesAddress, byte: u8)
         ensures { self.new ≡ holding self.old (write_at (world_on self.old) at.bank at.addr byte) }
     {
-        let way = route_of(at.bank, at.addr);
+        let way = route_of(at);
         let place = place_of(self.core.io.wmadd, way, at.addr);
         self.core.olds = self.ram.keep_old(self.core.olds, place);
         self.ram.poke(place, byte);

@@ -2,6 +2,7 @@
 ghost use Rattle.std.specs.Prelude.{◌≡◌};
 ghost use Rattle.bus.specs.Route.{system_route, route_of, place_of, memory};
 
+use common::snes_address::SnesAddress;
 use registers::wm_address::{WmAddBank, WmAddress};
 use wram::Place;
 
@@ -28,11 +29,11 @@ fn system_route(addr: u16) -> Route
 }
 
 #[tactic(auto, unfolding(crate::specs::Route::route_of))]
-pub fn route_of(bank: u8, addr: u16) -> Route
-    ensures { result ≡ route_of bank addr }
+pub fn route_of(at: SnesAddress) -> Route
+    ensures { result ≡ route_of at.bank at.addr }
 {
-    match bank {
-        0x00..=0x3F | 0x80..=0xBF => system_route(addr),
+    match at.bank {
+        0x00..=0x3F | 0x80..=0xBF => system_route(at.addr),
         0x7E => Route::Bank7E,
         0x7F => Route::Bank7F,
         _ => Route::Cartridge,

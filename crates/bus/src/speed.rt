@@ -3,6 +3,7 @@ ghost use Rattle.std.specs.Prelude.{◌≡◌};
 ghost use Rattle.bus.specs.Route.{zone_cost, cost_of};
 
 use crate::route::{Route, route_of};
+use common::snes_address::SnesAddress;
 
 // The joypad registers are the slowest.
 fn zone_cost(addr: u16) -> u8
@@ -15,12 +16,12 @@ fn zone_cost(addr: u16) -> u8
 }
 
 #[tactic(auto, unfolding(crate::specs::Route::cost_of))]
-pub fn cost(memsel: u8, bank: u8, addr: u16) -> u8
-    ensures { result ≡ cost_of memsel bank addr }
+pub fn cost(memsel: u8, at: SnesAddress) -> u8
+    ensures { result ≡ cost_of memsel at.bank at.addr }
 {
-    match route_of(bank, addr) {
+    match route_of(at) {
         Route::Bank7E | Route::Bank7F => 8,
-        Route::Data | Route::Registers => zone_cost(addr),
-        Route::Cartridge => cartridge::cost(memsel, bank, addr),
+        Route::Data | Route::Registers => zone_cost(at.addr),
+        Route::Cartridge => cartridge::cost(memsel, at),
     }
 }

@@ -5,11 +5,13 @@
 ghost use Rattle.std.specs.Prelude.{◌≡◌};
 ghost use Rattle.cartridge.specs.Cartridge.{rom_offset, rom_place, rom_byte, rom_cost};
 
+use common::snes_address::SnesAddress;
+
 // The offset of an address from $8000 up, as in a ROM that fills all banks.
-fn offset(bank: u8, addr: u16) -> usize
-    ensures { result ≡ rom_offset bank addr }
+fn offset(at: SnesAddress) -> usize
+    ensures { result ≡ rom_offset at.bank at.addr }
 {
-    (bank % 128) as usize * 32768 + addr.saturating_sub(0x8000) as usize
+    (at.bank % 128) as usize * 32768 + at.addr.saturating_sub(0x8000) as usize
 }
 
 // Where an offset lies in a ROM of `len` bytes. Each remainder is by a constant, so that no division is made.
@@ -31,20 +33,19 @@ fn place(len: usize, at: usize) -> usize
 }
 
 // The byte that the ROM answers; `openbus` where no chip does.
-pub fn read(rom: &[u8], bank: u8, addr: u16, openbus: u8) -> u8
-    ensures { result ≡ rom_byte rom.now bank addr openbus }
+pub fn read(rom: &[u8], at: SnesAddress, openbus: u8) -> u8
+    ensures { result ≡ rom_byte rom.now at.bank at.addr openbus }
 {
-    if addr < 0x8000 {
+    if at.addr < 0x8000 {
         return openbus;
     }
-    let at = place(rom.len(), offset(bank, addr));
-    rom.get(at).copied().unwrap_or(openbus)
+    rom.get(place(rom.len(), offset(at))).copied().unwrap_or(openbus)
 }
 
 // Cycles of an access: fast where MEMSEL says so, from $8000 up in banks $80-$FF.
-pub fn cost(memsel: u8, bank: u8, addr: u16) -> u8
-    ensures { result ≡ rom_cost memsel bank addr }
+pub fn cost(memsel: u8, at: SnesAddress) -> u8
+    ensures { result ≡ rom_cost memsel at.bank at.addr }
 {
-    let fast = 0x8000 <= addr && 0x80 <= bank && memsel & 1 != 0;
+    let fast = 0x8000 <= at.addr && 0x80 <= at.bank && memsel & 1 != 0;
     if fast { 6 } else { 8 }
 }

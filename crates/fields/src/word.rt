@@ -23,6 +23,7 @@ pub fn bytes_at<const N: usize>(s: &[u8], at: usize) -> [u8; N]
     b
 }
 
+// These four stay beside `bytes_at`, which is their one body: their callers name the width.
 pub fn two(s: &[u8], at: usize) -> u16
     ensures { result ≡ field 2 s.now at }
 {

@@ -17,6 +17,7 @@ use asbytes::bytes::{head, kept_at, length_at, put_head, put_sum, slot_at, sum_a
 use asbytes::{ACCESS_SIZE, ACCESSES, ACCESSES_SIZE};
 use bus::access::Access;
 use bus::route::{Route, place_of, route_of};
+use common::snes_address::SnesAddress;
 use decode::register_file::wmadd_in;
 use fields::put;
 use fields::word::{byte, bytes_at, two};
@@ -50,20 +51,20 @@ fn port_at(e: &[u8], addr: u16) -> u8
 
 // The byte of work RAM behind an address, if it has one.
 #[tactic(auto, unfolding(crate::specs::OneByte::place_for))]
-fn place_at(e: &[u8], bank: u8, addr: u16) -> Option<Place>
-    ensures { result ≡ place_for e.now bank addr }
+fn place_at(e: &[u8], at: SnesAddress) -> Option<Place>
+    ensures { result ≡ place_for e.now at.bank at.addr }
 {
-    place_of(wmadd_in(e), route_of(bank, addr), addr)
+    place_of(wmadd_in(e), route_of(at), at.addr)
 }
 
 #[tactic(auto, unfolding(crate::specs::OneByte::byte_from))]
-fn byte_from(e: &[u8], ram: &Ram<'_>, rom: &[u8], bank: u8, addr: u16) -> u8
-    ensures { result ≡ byte_from e.now rom.now ram.now.low.now ram.now.high.now bank addr }
+fn byte_from(e: &[u8], ram: &Ram<'_>, rom: &[u8], at: SnesAddress) -> u8
+    ensures { result ≡ byte_from e.now rom.now ram.now.low.now ram.now.high.now at.bank at.addr }
 {
-    match route_of(bank, addr) {
-        Route::Bank7E | Route::Bank7F | Route::Data => ram.peek(place_at(e, bank, addr)),
-        Route::Registers => port_at(e, addr),
-        Route::Cartridge => cartridge::read(rom, bank, addr, byte(e, OPENBUS)),
+    match route_of(at) {
+        Route::Bank7E | Route::Bank7F | Route::Data => ram.peek(place_at(e, at)),
+        Route::Registers => port_at(e, at.addr),
+        Route::Cartridge => cartridge::read(rom, at, byte(e, OPENBUS)),
     }
 }
 
@@ -189,8 +190,8 @@ pub fn carry(
     let nmi = nmi_at(e);
     let was = byte(e, NMI);
     let mut ram = Ram { low, high };
-    let moved = byte_from(e, &ram, rom, trip.source.bank, trip.source.addr);
-    let place = place_at(e, trip.target.bank, trip.target.addr);
+    let moved = byte_from(e, &ram, rom, trip.source);
+    let place = place_at(e, trip.target);
     let olds = ram.keep_old(no_olds(), place);
     let next = ram.sum_with(sum, place, moved);
     note_moved(entries, slot, machine, olds);

@@ -1,11 +1,12 @@
 -- One call more of a row; a rig that a run goes on with still lends the same slices; and which number a refusal has.
-use Rattle.std.proofs.Common.{◌≡◌, ℕ, ◌+◌, Bool, true, false, eqb, List, Option, Some, None, is_some, not, sym, refl, ap, ◌∙◌, add-one, ne_eqb}
+use Rattle.std.proofs.Common.{◌≡◌, ℕ, ◌+◌, ◌%◌, ◌^◌, ◌<◌, arith, Bool, true, false, eqb, List, Option, Some, None, is_some, not, sym, refl, ap, ◌∙◌, add-one, ne_eqb}
+use mir.Val.{bool_byte}
 use Rattle.common.specs.Refusal.{number_of, refusal_number}
 use Rattle.common.specs.declared.refusal.Refusal.{Refusal}
 use Rattle.common.proofs.RefusalLaws.{refusal_number-ne0}
 use Rattle.bench.specs.Calls.{Desk, CycleOut, cycle_call, PlainOut, back_call}
 use Rattle.script.specs.Rig.{desk_of, holding}
-use Rattle.script.specs.Run.{Running, first_of, first_flag, counted, struck, cycle_step, cycles_run, back_step, backs_run}
+use Rattle.script.specs.Run.{Running, first_of, first_flag, plus_one, counted, struck, cycle_step, cycles_run, back_step, backs_run}
 use Rattle.script.specs.declared.rig.Rig.{Rig}
 
 pub then_same : (a b c : Rig) → b ≡ holding a (desk_of b) → c ≡ holding b (desk_of c) → c ≡ holding a (desk_of c)
@@ -20,6 +21,11 @@ cycles_more event line timer i d h r p q o k = rw (add-one i) cc
 pub backs_more : (i : ℕ) (d : Desk) {s t : Running} → s ≡ backs_run i d → t ≡ back_step s → t ≡ backs_run (i + 1) d
 unfolding backs_run
 backs_more i d h k = rw (add-one i) cc
+
+-- a flag as a number counts one
+pub counted_by : (n : ℕ) (b : Bool) → n < 2 ^ 32 → (n + bool_byte b) % 2 ^ 32 ≡ plus_one n b
+counted_by n true h = refl
+counted_by n false h = omega (arith, h)
 
 -- a refusal's number is not 0
 pub stopped : (o : Option Refusal) {b : Bool} → b ≡ is_some o → b ≡ true → eqb (number_of o) 0 ≡ false

@@ -1,7 +1,7 @@
 // A row of several calls: cycles, or back steps. It stops at the first refusal; the calls before it stay done.
 ghost use Rattle.std.specs.Prelude.{◌≡◌};
 ghost use Rattle.script.specs.Rig.{desk_of, holding};
-ghost use Rattle.script.specs.Run.{ran, first_of, first_flag, plus_one, cycle_step, cycles_run, back_step, backs_run};
+ghost use Rattle.script.specs.Run.{ran, first_of, first_flag, cycle_step, cycles_run, back_step, backs_run};
 
 use crate::rig::Rig;
 use bench::back::back;
@@ -29,13 +29,6 @@ pub fn first_flag(i: u16, x: bool) -> bool
     (i == 0) & x
 }
 
-// One more where a call counts.
-fn plus_one(n: u32, counts: bool) -> u32
-    ensures { result ≡ plus_one n counts }
-{
-    n.wrapping_add(counts as u32)
-}
-
 // One cycle of a row, unless one was refused before it.
 fn cycle_step(rig: &mut Rig<'_>, s: Ran, event: u8, line: bool, timer: bool) -> Ran
     ensures same { rig.new ≡ holding rig.old (desk_of rig.new) }
@@ -59,7 +52,7 @@ fn cycle_step(rig: &mut Rig<'_>, s: Ran, event: u8, line: bool, timer: bool) -> 
             Ran {
                 refusal: None,
                 a: s.a.wrapping_add(1),
-                b: plus_one(s.b, r.held),
+                b: s.b.wrapping_add(r.held as u32),
             }
         }
         Err(refusal) => Ran {

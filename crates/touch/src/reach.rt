@@ -5,6 +5,7 @@ ghost use Rattle.touch.specs.Reach.{spot_number, spot_of, own_by, own_of, wm_wri
 use crate::who::Who;
 use bus::access::Access;
 use bus::route::{Route, place_of, route_of};
+use common::snes_address::SnesAddress;
 use common::u16_split::{with_high, with_low};
 use registers::wm_address::{WmAddBank, WmAddress, inc};
 use wram::Place;
@@ -32,11 +33,8 @@ fn own_by(channel: u8, way: Route, a: Access) -> bool
     ensures { result ≡ own_by channel way a }
 {
     match way {
-        Route::Bank7E => false,
-        Route::Bank7F => false,
-        Route::Data => false,
+        Route::Bank7E | Route::Bank7F | Route::Data | Route::Cartridge => false,
         Route::Registers => a.write & (a.addr / 16 == channel as u16 + 0x430),
-        Route::Cartridge => false,
     }
 }
 
@@ -45,8 +43,7 @@ fn own_of(who: Who, way: Route, a: Access) -> bool
 {
     match who {
         Who::Cpu => false,
-        Who::Dma { channel } => own_by(channel, way, a),
-        Who::Hdma { channel } => own_by(channel, way, a),
+        Who::Dma { channel } | Who::Hdma { channel } => own_by(channel, way, a),
     }
 }
 
@@ -54,23 +51,19 @@ fn own_of(who: Who, way: Route, a: Access) -> bool
 fn wm_written(w: WmAddress, addr: u16, byte: u8) -> WmAddress
     ensures { result ≡ wm_written w addr byte }
 {
-    let bank = w.bank;
     match addr {
         0x2181 => WmAddress {
-            bank,
             addr: with_low(w.addr, byte),
+            ..w
         },
         0x2182 => WmAddress {
-            bank,
             addr: with_high(w.addr, byte),
+            ..w
         },
-        0x2183 => {
-            let b = WmAddBank::from(byte);
-            WmAddress {
-                bank: b,
-                addr: w.addr,
-            }
-        }
+        0x2183 => WmAddress {
+            bank: WmAddBank::from(byte),
+            ..w
+        },
         _ => w,
     }
 }
@@ -79,8 +72,7 @@ fn wm_after(w: WmAddress, way: Route, a: Access) -> WmAddress
     ensures { result ≡ wm_by way w a }
 {
     match way {
-        Route::Bank7E => w,
-        Route::Bank7F => w,
+        Route::Bank7E | Route::Bank7F | Route::Cartridge => w,
         Route::Data => inc(w),
         Route::Registers => {
             if a.write {
@@ -88,7 +80,6 @@ fn wm_after(w: WmAddress, way: Route, a: Access) -> WmAddress
             }
             w
         }
-        Route::Cartridge => w,
     }
 }
 
@@ -96,7 +87,10 @@ fn wm_after(w: WmAddress, way: Route, a: Access) -> WmAddress
 pub fn reached(who: Who, w: WmAddress, a: Access) -> Reach
     ensures { reach_seen result ≡ reach_of who w a }
 {
-    let way = route_of(a.bank, a.addr);
+    let way = route_of(SnesAddress {
+        bank: a.bank,
+        addr: a.addr,
+    });
     let place = place_of(w, way, a.addr);
     let at = spot(place);
     let own = own_of(who, way, a);

@@ -18,13 +18,9 @@ pub struct Trip {
 
 // From the A bus to the B bus, or back where DMAP bit 7 is set.
 #[tactic(auto, unfolding(crate::specs::Byte::trip_of))]
-pub fn trip_of(dmap: u8, abank: u8, aaddr: u16, baddr: u16) -> Trip
-    ensures { result ≡ trip_of dmap abank aaddr baddr }
+pub fn trip_of(dmap: u8, a: SnesAddress, baddr: u16) -> Trip
+    ensures { result ≡ trip_of dmap a.bank a.addr baddr }
 {
-    let a = SnesAddress {
-        bank: abank,
-        addr: aaddr,
-    };
     let b = SnesAddress {
         bank: 0,
         addr: baddr,
@@ -80,6 +76,10 @@ pub fn transfer_byte(bus: &mut Bus<'_, '_>, ch: u8, unit: u32)
 {
     let c = bus.channel(ch);
     let b = b_address(c.bbad, offset(c.dmap, unit));
-    move_byte(bus, trip_of(c.dmap, c.a1b, c.a1t, b));
+    let a = SnesAddress {
+        bank: c.a1b,
+        addr: c.a1t,
+    };
+    move_byte(bus, trip_of(c.dmap, a, b));
     step_a1t(bus, ch, c.dmap);
 }

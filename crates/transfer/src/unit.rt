@@ -15,7 +15,7 @@ fn unit_byte(bus: &mut Bus<'_, '_>, c: DmaChannel, at: SnesAddress, i: u8)
     ensures { bus.new ≡ holding bus.old (unit_byte bus.old.rom.now c at.bank at.addr i (world_on bus.old)) }
 {
     let b = b_address(c.bbad, offset(c.dmap, i as u32));
-    move_byte(bus, trip_of(c.dmap, at.bank, at.addr, b));
+    move_byte(bus, trip_of(c.dmap, at, b));
 }
 
 // The first n bytes of a unit. DMAP and BBAD are those from before the unit.

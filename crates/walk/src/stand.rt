@@ -1,7 +1,7 @@
 // Where a script stands.
 ghost use Rattle.std.specs.Prelude.{◌≡◌};
 ghost use Rattle.common.specs.Refusal.{number_of};
-ghost use Rattle.walk.specs.Stand.{up, onward, counted};
+ghost use Rattle.walk.specs.Stand.{onward, counted};
 
 use common::refusal::Refusal;
 
@@ -13,20 +13,14 @@ pub struct Stand {
     pub held: u16,
 }
 
-fn up_by(n: u16, counts: bool) -> u16
-    ensures { result ≡ up n counts }
-{
-    n.wrapping_add(counts as u16)
-}
-
 // One call more, by its refusal and whether it was held. A refused call is never held.
 pub fn count_call(s: Stand, refusal: Option<Refusal>, held: bool) -> Stand
     ensures { result ≡ counted s (number_of refusal) held }
 {
     Stand {
         next: s.next,
-        done: up_by(s.done, refusal.is_none()),
-        held: up_by(s.held, held),
+        done: s.done.wrapping_add(refusal.is_none() as u16),
+        held: s.held.wrapping_add(held as u16),
     }
 }
 

@@ -1,6 +1,7 @@
 -- What the way of a cycle looks at in the machine's bytes, each number by its field of the entry's table.
 use Rattle.std.specs.Prelude.{ℕ, ◌%◌, Bool, not, ◌&&◌, List, eqb}
 use Rattle.std.specs.Int.Bits.{bit_and}
+use Rattle.common.specs.declared.snes_address.SnesAddress.{SnesAddress}
 use Rattle.layout.specs.Layout as the
 use Rattle.layout.specs.Layout.{num}
 use Rattle.transfer.specs.{Byte.trip_of, Pattern.offset_of, Pattern.b_address}
@@ -49,6 +50,10 @@ module _ (s : List ℕ) where
   -- the port on the B side
   abbrev pub bside_at : ℕ
   bside_at = b_address (num s (the.register busy_at the.bbad)) (offset_of dmap_at unit_at)
+
+  -- the address on the A side
+  abbrev pub aside_at : SnesAddress
+  aside_at = record { bank = a1b_at; addr = a1t_at }
 
   -- where the byte comes from and goes to
   abbrev pub trip_in : Trip

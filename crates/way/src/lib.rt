@@ -5,12 +5,13 @@ ghost use Rattle.std.specs.Prelude.{◌≡◌};
 ghost use Rattle.asbytes.specs.Machine.{head_of};
 ghost use Rattle.ranges.specs.Entry.{entry_ok};
 ghost use Rattle.ranges.specs.Tests.{all};
-ghost use Rattle.way.specs.Seen.{wait_at, clock_at, nmi_at, base_at, unit_at, bside_at, trip_in, seen};
+ghost use Rattle.way.specs.Seen.{wait_at, clock_at, nmi_at, base_at, unit_at, bside_at, aside_at, trip_in, seen};
 ghost use Rattle.way.specs.Way.{pressed_tests, calm_tests, waiting, due_tests, trip_tests, way_number, turn_by, kind_of, plain_tests, lent_tests, way_of};
 
 use asbytes::MACHINE_SIZE;
 use asbytes::bytes::{kept_at, length_at, slot_at};
 use bus::route::{leads_to_memory, route_of};
+use common::snes_address::SnesAddress;
 use fields::word::{byte, eight, four, two};
 use layout::{
     A1B, A1T, AUTO_KIND, BBAD, BUTTONS, CHANNEL, CHANNEL_SIZE, CHANNELS, CLOCK, DAS, DMA_STATE,
@@ -101,12 +102,23 @@ pub fn bside_at(s: &[u8]) -> u16
     b_address(byte(s, base + BBAD), off)
 }
 
+// The address of the A bus that it comes from or goes to.
+fn aside_at(s: &[u8]) -> SnesAddress
+    ensures { result ≡ aside_at s.now }
+{
+    let base = base_at(s);
+    SnesAddress {
+        bank: byte(s, base + A1B),
+        addr: two(s, base + A1T),
+    }
+}
+
 pub fn trip_at(s: &[u8]) -> Trip
     ensures { result ≡ trip_in s.now }
 {
     let base = base_at(s);
     let port = bside_at(s);
-    trip_of(byte(s, base), byte(s, base + A1B), two(s, base + A1T), port)
+    trip_of(byte(s, base), aside_at(s), port)
 }
 
 // A general transfer moves a byte, and it is not the channel's last.
@@ -128,8 +140,7 @@ fn plain_trip(s: &[u8]) -> bool
 {
     let base = base_at(s);
     let port = bside_at(s);
-    let way = route_of(byte(s, base + A1B), two(s, base + A1T));
-    leads_to_memory(way) & (flag(byte(s, base), 0x80) | !((0x2181 <= port) & (port < 0x2184)))
+    leads_to_memory(route_of(aside_at(s))) & (flag(byte(s, base), 0x80) | !((0x2181 <= port) & (port < 0x2184)))
 }
 
 #[tactic(auto, unfolding(crate::specs::Way::turn_by))]

@@ -39,7 +39,9 @@ pub fn read(rom: &[u8], at: SnesAddress, openbus: u8) -> u8
     if at.addr < 0x8000 {
         return openbus;
     }
-    rom.get(place(rom.len(), offset(at))).copied().unwrap_or(openbus)
+    rom.get(place(rom.len(), offset(at)))
+        .copied()
+        .unwrap_or(openbus)
 }
 
 // Cycles of an access: fast where MEMSEL says so, from $8000 up in banks $80-$FF.

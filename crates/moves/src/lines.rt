@@ -22,7 +22,14 @@ use walk::stand::Stand;
 
 // The access of a read or a write row, or its refusal.
 #[tactic(auto, unfolding(crate::specs::Text::cpu_text), using(std::proofs::lemmas::Bool::Decides::nat_tests))]
-fn put_cpu(out: &mut Sheet<'_>, row: u64, only: Option<u32>, before: Machine, access: Access, number: u8)
+fn put_cpu(
+    out: &mut Sheet<'_>,
+    row: u64,
+    only: Option<u32>,
+    before: Machine,
+    access: Access,
+    number: u8,
+)
     ensures { out.new ≡ putting out.old (cpu_text row (spot_number only) before access number) }
 {
     let clock = before.board.clock;

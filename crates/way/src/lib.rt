@@ -140,7 +140,8 @@ fn plain_trip(s: &[u8]) -> bool
 {
     let base = base_at(s);
     let port = bside_at(s);
-    leads_to_memory(route_of(aside_at(s))) & (flag(byte(s, base), 0x80) | !((0x2181 <= port) & (port < 0x2184)))
+    leads_to_memory(route_of(aside_at(s)))
+        & (flag(byte(s, base), 0x80) | !((0x2181 <= port) & (port < 0x2184)))
 }
 
 #[tactic(auto, unfolding(crate::specs::Way::turn_by))]

@@ -22,7 +22,7 @@ returns-then-s-ge-IMAGE_SIZE c =
     let unit = ap (λ (n : ℕ). le 4 ((n + 1) % 2 ^ 32)) c.unit_at-unit.ensures in
     let clock = ap (λ (n : ℕ). le 8 ((n + 1) % 2 ^ 64)) c.clock_at-clock.ensures in
     let a1t = a1t-by (take image_size s) base c.byte.ensures c.two.ensures c.next_a1t-a1t.ensures (c.to_le_bytes-then-s-ge-IMAGE_SIZE-2.ensures) in
-    let das = das-by (take image_size s) base c.two-then-s-ge-IMAGE_SIZE.ensures refl (c.to_le_bytes-then-s-ge-IMAGE_SIZE-3.ensures) in
+    let das = das-by (take image_size s) base c.two-das.ensures refl (c.to_le_bytes-then-s-ge-IMAGE_SIZE-3.ensures) in
     let f1 = within {k = at the.bank} (front image_size s room) c.put.ensures refl wmadd (omega arith) in
     let f2 = within {t = byte c.args.moved} {k = at the.openbus} f1 c.put-then-s-ge-IMAGE_SIZE.ensures refl refl (omega arith) in
     let f3 = within {k = at the.nmi} f2 c.put-then-s-ge-IMAGE_SIZE-2.ensures refl (ap flag c.nmi_at-nmi.ensures) (omega arith) in

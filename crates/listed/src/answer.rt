@@ -1,6 +1,6 @@
 // The line of a listed call: its numbers, then whatever differs from what was lent.
 use crate::changes::{Digits, changes};
-use crate::form::{Call, Listed, machine_of};
+use crate::form::{Call, Listed, listed_of, machine_of};
 use crate::lay::{BANK, RECORD, lay_bank, lay_record};
 use crate::made::{Made, lend};
 use append::Sheet;
@@ -81,13 +81,8 @@ fn look(line: &mut Sheet<'_>, l: Listed, low: &[u8; BANK], high: &[u8; BANK]) {
 }
 
 // Makes the call, and writes its line. All stayed where the line is bare of changes, and there is no flag, byte or cost.
-pub(crate) fn answer<'a>(
-    head: &[u8],
-    l: Listed,
-    newest: &[u8],
-    rom: &[u8],
-    line: &'a mut [u8; LINE],
-) -> Told<'a> {
+pub fn answer<'a>(head: &[u8], newest: &[u8], rom: &[u8], line: &'a mut [u8; LINE]) -> Told<'a> {
+    let l = listed_of(head);
     let s = machine_of(head);
     let mut low = [0u8; BANK];
     let mut high = [0u8; BANK];

@@ -21,14 +21,14 @@ pub fn lay_rom(rom: &mut [u8; ROM]) {
 }
 
 // One patch: place (3 bytes, the third 0 for $7E and 1 for $7F) and byte, if it is in this bank.
-fn lay_patch(bank: &mut [u8], which: u8, patch: &[u8]) {
-    if byte(patch, 2) == which {
+fn lay_patch(bank: &mut [u8], which: u32, patch: &[u8]) {
+    if byte(patch, 2) as u32 == which {
         put(bank, two(patch, 0) as usize, &[byte(patch, 3)]);
     }
 }
 
 // The fill, of 1 to 16 bytes, over a bank, and the patches.
-pub fn lay_bank(bank: &mut [u8; BANK], which: u8, head: &[u8]) {
+pub fn lay_bank(bank: &mut [u8; BANK], which: u32, head: &[u8]) {
     fill_bank(bank, part(head, FILL + 1, byte(head, FILL) as usize));
     for patch in part(head, PATCHES, HEAD - PATCHES).chunks(4) {
         lay_patch(bank, which, patch);
@@ -36,7 +36,7 @@ pub fn lay_bank(bank: &mut [u8; BANK], which: u8, head: &[u8]) {
 }
 
 // Bytes that no entry has; a back step's entry stands in the slot that the list names.
-pub fn lay_record(record: &mut [u8; RECORD], l: Listed, newest: &[u8]) {
+pub fn lay_record(record: &mut [u8], l: Listed, newest: &[u8]) {
     record.fill(0xEE);
     if let Some(slot) = l.call.newest() {
         put(record, slot as usize * ENTRY_SIZE, newest);

@@ -8,11 +8,10 @@ use std::io::Read;
 pub fn next<'a, R: Read>(from: &mut R, rom: &[u8], line: &'a mut [u8; LINE]) -> Option<Told<'a>> {
     let mut head = [0u8; HEAD];
     from.read_exact(&mut head).ok()?;
-    let l = listed_of(&head);
     let mut newest = [0u8; ENTRY_SIZE];
-    if l.call.newest().is_some() {
+    if listed_of(&head).call.newest().is_some() {
         // What does not come stays 0.
         let _ = from.read_exact(&mut newest);
     }
-    Some(answer(&head, l, &newest, rom, line))
+    Some(answer(&head, &newest, rom, line))
 }

@@ -1,5 +1,5 @@
 use mathlib.Core.Bool.{false}
-use mathlib.Core.Path.{refl, ap}
+use mathlib.Core.Path.{refl, ap, ◌∙◌}
 use Rattle.asbytes.specs.Answer.{answered}
 use Rattle.bus.specs.Access.{Log}
 use Rattle.inplace.proofs.{OneByteLaws.carry-crossed, RestLaws.rest-crossed}

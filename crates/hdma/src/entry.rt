@@ -1,21 +1,23 @@
 // Table entries: the first of a frame, a new one where the counter ran out, and the counter's step.
 ghost use Rattle.std.specs.Prelude.{◌≡◌, is_none, unwrap_or};
-ghost use Rattle.hdma.specs.Lent.{unit, unit_on, left_on};
+ghost use Rattle.bus.specs.Lent.{world_seen};
+ghost use Rattle.hdma.specs.Lent.{unit, unit_on, left_on, read_unit, unit_seen, left_seen};
 ghost use Rattle.hdma.specs.Entry.{reloaded, counted, init_channel};
 
 use crate::engine::{hdma_of, set_hdma};
-use bus::bus::Bus;
+use bus::bus::{Bus, ReadBus};
 use registers::channel::DmaChannel;
 use state::{Dma, HdmaChannelState};
 use transfer::bits::flag;
 use transfer::table::{load_das, read_table};
 
-// A new entry, where the low seven bits of the counter are 0. Answers the cost so far less one; none, where the table ended.
+// A new entry, where the low seven bits of the counter are 0. Answers the cost so far less one; none, where the table ended. The bus is only read.
 #[tactic(auto, unfolding(crate::specs::Entry::reloaded))]
-pub fn reload_entry(bus: &mut Bus<'_, '_>, dma: &mut Dma, ch: u8, indirect: bool) -> Option<u8>
-    ensures stop { is_none result ≡ (reloaded bus.old.rom.now (unit_on bus.old dma.old) ch indirect).stop }
-    ensures wait { unwrap_or result 7 ≡ (reloaded bus.old.rom.now (unit_on bus.old dma.old) ch indirect).wait }
-    ensures after { unit bus.new dma.new ≡ left_on bus.old (reloaded bus.old.rom.now (unit_on bus.old dma.old) ch indirect).after }
+pub fn reload_entry(bus: &mut ReadBus<'_>, dma: &mut Dma, ch: u8, indirect: bool) -> Option<u8>
+    ensures stop { is_none result ≡ (reloaded bus.old.rom.now (unit_seen bus.old dma.old) ch indirect).stop }
+    ensures wait { unwrap_or result 7 ≡ (reloaded bus.old.rom.now (unit_seen bus.old dma.old) ch indirect).wait }
+    ensures after { read_unit bus.new dma.new ≡ left_seen bus.old (reloaded bus.old.rom.now (unit_seen bus.old dma.old) ch indirect).after }
+    ensures ram { (reloaded bus.old.rom.now (unit_seen bus.old dma.old) ch indirect).after.world.ram ≡ (world_seen bus.old).ram }
 {
     let h = hdma_of(dma, ch);
     if flag(h.counter, 0x7F) {
@@ -68,14 +70,15 @@ pub fn init_channel(bus: &mut Bus<'_, '_>, dma: &mut Dma, ch: u8)
     let c = bus.channel(ch);
     let indirect = flag(c.dmap, 0x40);
     bus.set_channel(ch, DmaChannel { a2a: c.a1t, ..c });
-    let counter = read_table(bus, ch);
+    let mut reads = ReadBus::of(&mut bus.core, bus.ram, bus.rom);
+    let counter = read_table(&mut reads, ch);
     let h = HdmaChannelState {
         counter,
         transfer: counter != 0,
         finished: counter == 0,
     };
     if (counter != 0) & indirect {
-        load_das(bus, ch);
+        load_das(&mut reads, ch);
         set_hdma(dma, ch, h, 23);
     } else {
         set_hdma(dma, ch, h, 7);

@@ -5,7 +5,7 @@ ghost use Rattle.hdma.specs.Line.{line_channel};
 
 use crate::engine::hdma_of;
 use crate::entry::{count_line, reload_entry};
-use bus::bus::Bus;
+use bus::bus::{Bus, ReadBus};
 use state::Dma;
 use transfer::bits::flag;
 use transfer::unit::transfer_unit;
@@ -26,7 +26,8 @@ pub fn line_channel(bus: &mut Bus<'_, '_>, dma: &mut Dma, ch: u8)
     }
     let c = bus.channel(ch);
     let indirect = flag(c.dmap, 0x40);
-    let Some(wait) = reload_entry(bus, dma, ch, indirect) else {
+    let mut reads = ReadBus::of(&mut bus.core, bus.ram, bus.rom);
+    let Some(wait) = reload_entry(&mut reads, dma, ch, indirect) else {
         return;
     };
     let bytes = if hdma_of(dma, ch).transfer {

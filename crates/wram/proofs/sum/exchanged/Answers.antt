@@ -1,7 +1,7 @@
 use Rattle.std.proofs.Common.{arith}
 use Rattle.wram.proofs.SumLaws.{exchanged-none, counted, uncounted}
-use Rattle.wram.proofs.Ram.exchanged.Goals as goal
-use Rattle.wram.proofs.Ram.exchanged.Goals.{then-first_there-inside, else-first_there-inside}
+use Rattle.wram.proofs.sum.exchanged.Goals as goal
+use Rattle.wram.proofs.sum.exchanged.Goals.{then-first_there-inside, else-first_there-inside}
 
 pub loop-i-init : goal.loop-i-init
 loop-i-init c = exchanged-none _ _ _ (omega arith)

@@ -1,7 +1,0 @@
-use Rattle.std.proofs.Common.{min}
-use Rattle.wram.specs.Lent.{seen}
-use Rattle.wram.proofs.SumLaws.{Exchanged}
-use Rattle.wram.proofs.Ram.exchanged.Given as goal
-
-abbrev pub invariant-loop-i : goal.invariant-loop-i
-invariant-loop-i l = Exchanged (min l.fn.olds.count 4) l.fn.olds (seen l.self) l.stands l.stood l.i

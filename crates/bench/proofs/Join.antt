@@ -112,9 +112,10 @@ module _ (d : Desk) {lent cap slot : ℕ} {e : Decoded} (p : lent ≡ lent_of d 
   back_done z a t b = cc
 
 module _ (low high : List ℕ) (room bitcycles : ℕ) where
-  pub fresh-refused : (r : Refusal) → refusal_number r ≡ fresh_number (length low) (length high) room bitcycles → ◌≡◌ {A = FreshOut} (record { number = refusal_number r; bench = no_bench }) (fresh_call low high room bitcycles)
+  pub fresh-refused : (r : Refusal) {b : Bench} → refusal_number r ≡ fresh_number (length low) (length high) room bitcycles → b ≡ no_bench
+      → ◌≡◌ {A = FreshOut} (record { number = refusal_number r; bench = b }) (fresh_call low high room bitcycles)
   unfolding fresh_call
-  fresh-refused r p = let z = refuses r in cc
+  fresh-refused r p q = let z = refuses r in cc
 
   pub fresh-done : {sum : ℕ} {b : Bench} → 0 ≡ fresh_number (length low) (length high) room bitcycles → sum ≡ ram_sum (banks low high) → b ≡ empty_bench room bitcycles sum
       → ◌≡◌ {A = FreshOut} (record { number = 0; bench = b }) (fresh_call low high room bitcycles)

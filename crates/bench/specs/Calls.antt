@@ -24,7 +24,7 @@ use Rattle.ring.specs.Refusal.{lent_number, cycle_number, port_number, address_n
 use Rattle.ring.specs.Slots.{before, bench, Noted, noting, noted}
 use Rattle.bench.specs.declared.operate.{CycleAnswer.CycleAnswer, ReadAnswer.ReadAnswer}
 use Rattle.ring.specs.declared.Bench.{Bench}
-use Rattle.bench.specs.declared.operate.WriteAnswer.{WriteAnswer}
+use Rattle.bench.specs.declared.{operate.WriteAnswer.WriteAnswer, fresh.RefusedFresh.RefusedFresh}
 
 -- what a call is given and leaves: the machine with its counts and its sum, both banks, the record's bytes
 pub record Desk : Type 0 where
@@ -205,9 +205,10 @@ pub record FreshOut : Type 0 where
   pub number : ℕ
   pub bench : Bench
 
-abbrev pub fresh_out : Result Bench Refusal → FreshOut
+-- the same of what the code returns
+abbrev pub fresh_out : Result Bench RefusedFresh → FreshOut
 fresh_out (Ok b) = record { number = 0; bench = b }
-fresh_out (Err x) = record { number = refusal_number x; bench = no_bench }
+fresh_out (Err x) = record { number = refusal_number x.refusal; bench = x.bench }
 
 -- both banks are looked at: their lengths, then their sum
 unfoldable pub fresh_call : (low high : List ℕ) → (room bitcycles : ℕ) → FreshOut

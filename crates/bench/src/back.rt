@@ -14,10 +14,10 @@ use wram::Ram;
 pub fn back(b: Bench, low: &mut [u8], high: &mut [u8], entries: &mut [u8]) -> Result<Bench, Refusal>
     ensures { plain_out b result low.new high.new entries.new ≡ back_call (desk b low.old high.old entries.old) }
 {
-    lent(b, low.len(), high.len(), entries.len(), 0)?;
+    let lent = lent(b, low.len(), high.len(), entries.len(), 0);
     let slot = slot_before(capacity(b.length), b.slot);
     let newest = read_entry(entries, slot);
-    back_allowed(b.kept, newest.ok)?;
+    back_allowed(lent, b.kept, newest.ok)?;
     let mut ram = Ram { low, high };
     let sum = ram.sum_before(b.sum, newest.olds);
     ram.put_back(newest.olds);

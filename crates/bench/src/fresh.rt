@@ -8,6 +8,13 @@ use ring::Bench;
 use ring::refusal::fresh_allowed;
 use wram::sum::ram_sum;
 
+// Why fresh was refused, and the bench that it gives all the same.
+#[derive(Clone, Copy)]
+pub struct RefusedFresh {
+    pub refusal: Refusal,
+    pub bench: Bench,
+}
+
 fn empty_bench(length: usize, bitcycles: u16, sum: u32) -> Bench
     ensures { result ≡ empty_bench length bitcycles sum }
 {
@@ -20,7 +27,7 @@ fn empty_bench(length: usize, bitcycles: u16, sum: u32) -> Bench
     }
 }
 
-// What stands where fresh was refused.
+// What a refused fresh has.
 pub fn no_bench() -> Bench
     ensures { result ≡ no_bench }
 {
@@ -28,9 +35,14 @@ pub fn no_bench() -> Bench
 }
 
 // The banks, apart as the C interface lends them, are only looked at, and added up once.
-pub fn fresh(low: &[u8], high: &[u8], length: usize, bitcycles: u16) -> Result<Bench, Refusal>
+pub fn fresh(low: &[u8], high: &[u8], length: usize, bitcycles: u16) -> Result<Bench, RefusedFresh>
     ensures { fresh_out result ≡ fresh_call low.now high.now length bitcycles }
 {
-    fresh_allowed(low.len(), high.len(), length, bitcycles)?;
-    Ok(empty_bench(length, bitcycles, ram_sum(low, high)))
+    match fresh_allowed(low.len(), high.len(), length, bitcycles) {
+        Ok(()) => Ok(empty_bench(length, bitcycles, ram_sum(low, high))),
+        Err(refusal) => Err(RefusedFresh {
+            refusal,
+            bench: no_bench(),
+        }),
+    }
 }

@@ -65,8 +65,8 @@ pub fn cycle(
 ) -> Result<CycleAnswer, Refusal>
     ensures { cycle_out b result low.new high.new entries.new ≡ cycle_call rom.now (desk b low.old high.old entries.old) event line timer }
 {
-    lent(b, low.len(), high.len(), entries.len(), rom.len())?;
-    cycle_allowed(b, event)?;
+    let lent = lent(b, low.len(), high.len(), entries.len(), rom.len());
+    cycle_allowed(lent, b, event)?;
     let mut next = b.machine;
     let mut ram = Ram { low, high };
     let turn = machine::cycle::cycle(&mut next, &mut ram, rom, event_of(event), line, timer);
@@ -163,8 +163,8 @@ pub fn pad(
 ) -> Result<Bench, Refusal>
     ensures { plain_out b result low.new high.new entries.new ≡ pad_call rom.now (desk b low.old high.old entries.old) port word }
 {
-    lent(b, low.len(), high.len(), entries.len(), rom.len())?;
-    port_allowed(port)?;
+    let lent = lent(b, low.len(), high.len(), entries.len(), rom.len());
+    port_allowed(lent, port)?;
     Ok(host(b, entries, set_pad(b.machine, port, word)))
 }
 
@@ -180,8 +180,8 @@ pub fn plug(
 ) -> Result<Bench, Refusal>
     ensures { plain_out b result low.new high.new entries.new ≡ plug_call rom.now (desk b low.old high.old entries.old) port on }
 {
-    lent(b, low.len(), high.len(), entries.len(), rom.len())?;
-    port_allowed(port)?;
+    let lent = lent(b, low.len(), high.len(), entries.len(), rom.len());
+    port_allowed(lent, port)?;
     Ok(host(b, entries, set_plug(b.machine, port, on)))
 }
 
@@ -197,7 +197,7 @@ pub fn port_answer(
 ) -> Result<Bench, Refusal>
     ensures { plain_out b result low.new high.new entries.new ≡ answer_call rom.now (desk b low.old high.old entries.old) addr byte }
 {
-    lent(b, low.len(), high.len(), entries.len(), rom.len())?;
-    address_allowed(addr)?;
+    let lent = lent(b, low.len(), high.len(), entries.len(), rom.len());
+    address_allowed(lent, addr)?;
     Ok(host(b, entries, set_answer(b.machine, addr, byte)))
 }

@@ -8,7 +8,7 @@ use crate::contents::body;
 use common::refusal::Refusal;
 
 // 11 for a section over 3 or a broken file.
-pub fn section_look(file: &[u8], section: u8) -> Result<&[u8], Refusal>
+pub fn section_part(file: &[u8], section: u8) -> Result<&[u8], Refusal>
     ensures number { result_number result ≡ section_number file.now section }
     ensures bytes { result_bytes result ≡ section_of file.now section }
 {
@@ -17,4 +17,21 @@ pub fn section_look(file: &[u8], section: u8) -> Result<&[u8], Refusal>
     }
     file_check(file)?;
     Ok(body(file, section))
+}
+
+// The same number, else 0.
+pub fn section_number(file: &[u8], section: u8) -> u8
+    ensures { result ≡ section_number file.now section }
+{
+    match section_part(file, section) {
+        Ok(_) => 0,
+        Err(refusal) => refusal.number(),
+    }
+}
+
+// Empty where the number is not 0.
+pub fn section_look(file: &[u8], section: u8) -> &[u8]
+    ensures { result.now ≡ section_of file.now section }
+{
+    section_part(file, section).unwrap_or(&[])
 }

@@ -10,7 +10,7 @@ use Rattle.bench.specs.Page.{page_call}
 use Rattle.ring.specs.Refusal.{look_number}
 use Rattle.bench.specs.declared.operate.{CycleAnswer.CycleAnswer, ReadAnswer.ReadAnswer}
 use Rattle.ring.specs.declared.Bench.{Bench}
-use Rattle.bench.specs.declared.operate.WriteAnswer.{WriteAnswer}
+use Rattle.bench.specs.declared.{operate.WriteAnswer.WriteAnswer, fresh.RefusedFresh.RefusedFresh}
 use Rattle.benchfile.specs.File.{file_check, section_number, section_of}
 use Rattle.common.proofs.RefusalLaws.{refusal_of-number, refusal_number-apart, refusal_number-ne0}
 use Rattle.common.specs.Refusal.{result_number, result_bytes}
@@ -47,9 +47,9 @@ plain-back : (b : Bench) (r : Result Bench Refusal) (l h e : List ℕ) → of_pl
 plain-back b (Ok x) l h e = refl
 plain-back b (Err x) l h e = rw (refusal_of-number x) refl
 
-fresh-back : (r : Result Bench Refusal) → of_fresh (fresh_out r) ≡ r
+fresh-back : (r : Result Bench RefusedFresh) → of_fresh (fresh_out r) ≡ r
 fresh-back (Ok x) = refl
-fresh-back (Err x) = rw (refusal_of-number x) refl
+fresh-back (Err x) = rw (refusal_of-number x.refusal) refl
 
 moved : {A : Type 0} {x x' y y' : Outcome A} → x ≡ x' → y ≡ y' → Coincide x y → Coincide x' y'
 moved p q c =
@@ -105,7 +105,7 @@ pub back_coincides : (b : Bench) (low high entries : List ℕ) {l h e l' h' e' :
 back_coincides b low high entries {l} {h} {e} {l'} {h'} {e'} {r} {r'} p q = moved (plain-back b r l h e) (plain-back b r' l' h' e') (coincide of_plain p q)
 
 -- what is lent nothing to write to leaves its answer alone: a struct, a number, or the bytes of a part
-pub fresh_coincides : (low high : List ℕ) (room bitcycles : ℕ) {r r' : Result Bench Refusal} → fresh_out r ≡ fresh_call low high room bitcycles → fresh_out r' ≡ fresh_call low high room bitcycles → r ≡ r'
+pub fresh_coincides : (low high : List ℕ) (room bitcycles : ℕ) {r r' : Result Bench RefusedFresh} → fresh_out r ≡ fresh_call low high room bitcycles → fresh_out r' ≡ fresh_call low high room bitcycles → r ≡ r'
 fresh_coincides low high room bitcycles {r} {r'} p q = sym (fresh-back r) ∙ ap of_fresh (p ∙⁻¹ q) ∙ fresh-back r'
 
 -- the same number and the same bytes are one answer

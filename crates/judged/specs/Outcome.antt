@@ -3,7 +3,7 @@ use Rattle.std.specs.Prelude.{ℕ, List, ◌≡◌}
 use denote.Ref.{Bor}
 use Rattle.bench.specs.Calls.{CycleOut, ReadOut, WriteOut, PlainOut, FreshOut}
 use Rattle.bench.specs.declared.{operate.CycleAnswer.CycleAnswer, operate.ReadAnswer.ReadAnswer}
-use Rattle.bench.specs.declared.operate.WriteAnswer.{WriteAnswer}
+use Rattle.bench.specs.declared.{operate.WriteAnswer.WriteAnswer, fresh.RefusedFresh.RefusedFresh}
 use Rattle.common.specs.Refusal.{refusal_of}
 use Rattle.common.specs.declared.refusal.Refusal.{Refusal}
 use Rattle.ring.specs.declared.Bench.{Bench}
@@ -52,8 +52,13 @@ of_write o =
 abbrev pub of_plain : PlainOut → Outcome (Result Bench Refusal)
 of_plain o = let d = o.desk in outcome (unless (refusal_of o.number) d.bench) d.ram.low d.ram.high d.entries
 
-abbrev pub of_fresh : FreshOut → Result Bench Refusal
-of_fresh o = unless (refusal_of o.number) o.bench
+-- fresh gives a bench either way
+abbrev pub unless_fresh : Option Refusal → Bench → Result Bench RefusedFresh
+unless_fresh None b = Ok b
+unless_fresh (Some r) b = Err (record { refusal = r; bench = b })
+
+abbrev pub of_fresh : FreshOut → Result Bench RefusedFresh
+of_fresh o = unless_fresh (refusal_of o.number) o.bench
 
 -- what a look gives, by its bytes
 abbrev pub looked : Result (Bor (List ℕ)) Refusal → Result (List ℕ) Refusal

@@ -6,7 +6,7 @@ use crate::made::{Made, lend};
 use append::Sheet;
 use asbytes::MACHINE_SIZE;
 use asbytes::bytes::head_bytes;
-use bench::page::page_look;
+use bench::page::page_part;
 use bus::access::{Access, Log};
 use common::refusal::Refusal;
 use fields::part::part;
@@ -74,7 +74,7 @@ fn look(line: &mut Sheet<'_>, l: Listed, low: &[u8; BANK], high: &[u8; BANK]) {
     let Call::Page(page) = l.call else {
         return;
     };
-    if let Ok(bytes) = page_look(&low[..l.low.min(BANK)], &high[..l.high.min(BANK)], page) {
+    if let Ok(bytes) = page_part(&low[..l.low.min(BANK)], &high[..l.high.min(BANK)], page) {
         line.put(b" p");
         line.hexes(b"", bytes);
     }

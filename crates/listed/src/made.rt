@@ -3,9 +3,9 @@ use crate::form::{Call, Listed, bench_of};
 use crate::lay::{BANK, RECORD};
 use asbytes::MACHINE_SIZE;
 use asbytes::bytes::store;
-use bench::fresh::{fresh, no_bench};
+use bench::fresh::fresh;
 use bench::operate::{CycleAnswer, cycle};
-use bench::page::page_look;
+use bench::page::page_part;
 use benchfile::row::Row;
 use bus::access::{Log, no_log};
 use common::refusal::Refusal;
@@ -73,10 +73,10 @@ fn make(
     rom: &[u8],
 ) -> Made {
     match l.call {
-        Call::Fresh { bitcycles } => {
-            let made = fresh(low, high, l.record, bitcycles);
-            quiet(made.err(), bytes_of(made.unwrap_or(no_bench())))
-        }
+        Call::Fresh { bitcycles } => match fresh(low, high, l.record, bitcycles) {
+            Ok(b) => quiet(None, bytes_of(b)),
+            Err(x) => quiet(Some(x.refusal), bytes_of(x.bench)),
+        },
         Call::Cycle { event, due, timer } => {
             let b = bench_of(&s);
             match cycle(b, low, high, entries, rom, event, due, timer) {
@@ -95,7 +95,7 @@ fn make(
             let r = run_row(&mut rig, row);
             row_made(row, r, bytes_of(rig.bench))
         }
-        Call::Page(page) => quiet(page_look(low, high, page).err(), s),
+        Call::Page(page) => quiet(page_part(low, high, page).err(), s),
     }
 }
 

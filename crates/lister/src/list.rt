@@ -3,7 +3,6 @@
 
 ghost use Rattle.std.specs.Prelude.{◌≡◌};
 ghost use Rattle.append.specs.Lent.{putting};
-ghost use Rattle.benchfile.specs.File.{section_of};
 ghost use Rattle.lister.specs.List.{script_text, list_text};
 
 use crate::body::lines;
@@ -22,19 +21,12 @@ fn rows(out: &mut Sheet<'_>, s: &[u8])
     }
 }
 
-// A section of the file; a broken file has none.
-fn section(file: &[u8], which: u8) -> &[u8]
-    ensures { result.now ≡ section_of file.now which }
-{
-    section_look(file, which).unwrap_or(&[])
-}
-
 // The text of a whole file.
 pub fn list_file(out: &mut Sheet<'_>, file: &[u8])
     ensures { out.new ≡ putting out.old (list_text file.now) }
 {
-    number_line(out, b"bitcycles ", two(section(file, 0), 0));
-    lines(out, b"fill", section(file, 1));
-    lines(out, b"rom", section(file, 2));
-    rows(out, section(file, 3));
+    number_line(out, b"bitcycles ", two(section_look(file, 0), 0));
+    lines(out, b"fill", section_look(file, 1));
+    lines(out, b"rom", section_look(file, 2));
+    rows(out, section_look(file, 3));
 }

@@ -13,8 +13,7 @@ ghost use Rattle.player_abi.specs.Calls.{left_by, left, read_crossed, write_cros
 
 use asbytes::answer::put_answer;
 use asbytes::bytes::{bench_of, store};
-use bench::fresh::no_bench;
-use bench::page::page_look;
+use bench::page::page_part;
 use bus::access::no_log;
 use common::refusal::Refusal;
 use fields::put;
@@ -42,7 +41,7 @@ fn write_back(machine: &mut [u8], r: Result<Bench, Refusal>) -> u8
             store(machine, b);
             0
         }
-        Err(x) => x.number(),
+        Err(refusal) => refusal.number(),
     }
 }
 
@@ -57,16 +56,12 @@ pub extern "C" fn cloverwain_fresh(
 ) -> u8
     ensures { crossed result machine.new [] [] [] [] ≡ fresh_crossed machine.old (fresh_call low.now high.now length bitcycles) }
 {
-    match bench::fresh::fresh(low, high, length, bitcycles) {
-        Ok(b) => {
-            store(machine, b);
-            0
-        }
-        Err(r) => {
-            store(machine, no_bench());
-            r.number()
-        }
-    }
+    let (b, number) = match bench::fresh::fresh(low, high, length, bitcycles) {
+        Ok(b) => (b, 0),
+        Err(x) => (x.bench, x.refusal.number()),
+    };
+    store(machine, b);
+    number
 }
 
 // One master cycle; `out` takes 58 bytes. Where the DMA unit only waits, is idle, or moves a byte between memory and a port, the bytes
@@ -261,7 +256,7 @@ pub extern "C" fn cloverwain_page<'a>(
 ) -> u8
     ensures { crossed result [] [] [] [] out.new ≡ crossed (look_number (length low.now) (length high.now) page) [] [] [] [] (patched out.old 0 (page_call low.now high.now page)) }
 {
-    match page_look(low, high, page) {
+    match page_part(low, high, page) {
         Ok(bytes) => {
             put(out, 0, bytes);
             0

@@ -3,7 +3,8 @@
 use crate::look::say_part;
 use crate::say::say_last;
 use benchfile::check::file_check;
-use benchfile::section::section_look;
+use benchfile::section::{section_look, section_number};
+use common::refusal::number_of;
 use fields::part::part;
 use fields::put;
 use fields::word::{byte, four};
@@ -22,13 +23,12 @@ pub fn file_tried(rt: HostRuntime, given: &[u8]) -> io::Result<()> {
     let mut file = [0u8; FILE];
     built(&mut file, given);
     let file = part(&file, 0, four(given, 32) as usize);
-    say_last(rt, file_check(file).err())
+    say_last(rt, number_of(file_check(file).err()))
 }
 
 fn section(rt: HostRuntime, file: &[u8], which: u8) -> io::Result<()> {
-    let looked = section_look(file, which);
-    say_part(rt, looked.unwrap_or(&[]))?;
-    say_last(rt, looked.err())
+    say_part(rt, section_look(file, which))?;
+    say_last(rt, section_number(file, which))
 }
 
 // Section look gives as many bytes as the contents say, and none where it is refused.

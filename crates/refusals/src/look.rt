@@ -1,8 +1,8 @@
 // Fresh and page look, tried.
 use crate::say::{say, say_last, say_named, say_number};
-use bench::fresh::{fresh, no_bench};
-use bench::page::page_look;
-use common::refusal::Refusal;
+use bench::fresh::fresh;
+use bench::page::{page_look, page_number};
+use common::refusal::{Refusal, number_of};
 use fields::part::part;
 use fields::put;
 use fields::word::{four, two};
@@ -21,12 +21,14 @@ pub fn fresh_tried(rt: HostRuntime, given: &[u8]) -> io::Result<()> {
         four(given, 8) as usize,
         two(given, 12),
     );
-    say_fresh(rt, made)
+    match made {
+        Ok(b) => say_fresh(rt, None, b),
+        Err(x) => say_fresh(rt, Some(x.refusal), x.bench),
+    }
 }
 
-fn say_fresh(rt: HostRuntime, made: Result<Bench, Refusal>) -> io::Result<()> {
-    let b = made.unwrap_or(no_bench());
-    say_number(rt, made.err())?;
+fn say_fresh(rt: HostRuntime, refusal: Option<Refusal>, b: Bench) -> io::Result<()> {
+    say_number(rt, number_of(refusal))?;
     say_named(rt, b", bit cycles ", b.machine.board.bitcycles as u64)?;
     say_named(rt, b", record length ", b.length as u64)?;
     say_named(rt, b", slot ", b.slot as u64)?;
@@ -55,11 +57,10 @@ fn mark(bank: &mut [u8], first: u8, last: u8) {
 }
 
 fn look<'a>(rt: HostRuntime, low: &'a [u8], high: &'a [u8], page: u16) -> io::Result<()> {
-    let looked = page_look(low, high, page);
-    let bytes = looked.unwrap_or(&[]);
+    let bytes = page_look(low, high, page);
     say_part(rt, bytes)?;
     say_first(rt, bytes)?;
-    say_last(rt, looked.err())
+    say_last(rt, page_number(low, high, page))
 }
 
 // The lengths of both banks and the page are given.

@@ -1,7 +1,7 @@
-// Document 01's table of refusals. Tests go in number order; each call makes `lent`'s first, then its own.
+// Document 01's table of refusals. Tests go in number order.
 ghost use Rattle.std.specs.Prelude.{◌≡◌};
 ghost use Rattle.common.specs.Refusal.{result_number};
-ghost use Rattle.ring.specs.Refusal.{banks_off, record_off, rom_off, bench_off, lent_number, cycle_number, port_number, address_number, back_number, fresh_number, look_number};
+ghost use Rattle.ring.specs.Refusal.{banks_off, record_off, rom_off, bench_off, lent_number, also_of, cycle_number, port_number, address_number, back_number, fresh_number, look_number};
 
 use crate::Bench;
 use common::refusal::Refusal;
@@ -59,54 +59,61 @@ pub fn lent(b: Bench, low: usize, high: usize, length: usize, rom: usize) -> Res
     Ok(())
 }
 
-// A cycle also tests its event, and the clock's end.
+// The first that refuses.
+fn also(first: Result<(), Refusal>, second: Result<(), Refusal>) -> Result<(), Refusal>
+    ensures { result_number result ≡ also_of (result_number first) (result_number second) }
+{
+    first.and(second)
+}
+
+// A cycle also tests its event, and the clock's end. Here and below, what `lent` answered comes first.
 #[tactic(auto, unfolding(crate::specs::Refusal::cycle_number))]
-pub fn cycle_allowed(b: Bench, event: u8) -> Result<(), Refusal>
-    ensures { result_number result ≡ cycle_number 0 b event }
+pub fn cycle_allowed(lent: Result<(), Refusal>, b: Bench, event: u8) -> Result<(), Refusal>
+    ensures { result_number result ≡ cycle_number (result_number lent) b event }
 {
     if 4 < event {
-        return Err(Refusal::Event);
+        return also(lent, Err(Refusal::Event));
     }
     if b.machine.board.clock == u64::MAX {
-        return Err(Refusal::ClockEnd);
+        return also(lent, Err(Refusal::ClockEnd));
     }
-    Ok(())
+    lent
 }
 
 // pad and plug also test their controller port.
 #[tactic(auto, unfolding(crate::specs::Refusal::port_number))]
-pub fn port_allowed(port: u8) -> Result<(), Refusal>
-    ensures { result_number result ≡ port_number 0 port }
+pub fn port_allowed(lent: Result<(), Refusal>, port: u8) -> Result<(), Refusal>
+    ensures { result_number result ≡ port_number (result_number lent) port }
 {
     if 1 < port {
-        return Err(Refusal::Port);
+        return also(lent, Err(Refusal::Port));
     }
-    Ok(())
+    lent
 }
 
 // A port answer also tests its address: one of the PPU's twelve or the APU's four.
 #[tactic(auto, unfolding(crate::specs::Refusal::address_number))]
-pub fn address_allowed(addr: u16) -> Result<(), Refusal>
-    ensures { result_number result ≡ address_number 0 addr }
+pub fn address_allowed(lent: Result<(), Refusal>, addr: u16) -> Result<(), Refusal>
+    ensures { result_number result ≡ address_number (result_number lent) addr }
 {
     if (addr < 0x2134) | (0x2143 < addr) {
-        return Err(Refusal::Port);
+        return also(lent, Err(Refusal::Port));
     }
-    Ok(())
+    lent
 }
 
 // Back also tests that something is kept, and the newest entry.
 #[tactic(auto, unfolding(crate::specs::Refusal::back_number))]
-pub fn back_allowed(kept: usize, ok: bool) -> Result<(), Refusal>
-    ensures { result_number result ≡ back_number 0 kept ok }
+pub fn back_allowed(lent: Result<(), Refusal>, kept: usize, ok: bool) -> Result<(), Refusal>
+    ensures { result_number result ≡ back_number (result_number lent) kept ok }
 {
     if kept == 0 {
-        return Err(Refusal::NothingKept);
+        return also(lent, Err(Refusal::NothingKept));
     }
     if !ok {
-        return Err(Refusal::Entry);
+        return also(lent, Err(Refusal::Entry));
     }
-    Ok(())
+    lent
 }
 
 // fresh tests both banks, the first two parts of 2, then 10.

@@ -46,10 +46,12 @@ pub fn begin(file: &[u8], low: &mut [u8], high: &mut [u8]) -> Result<Started, Re
     let fill = body(file, 1);
     fill_bank(low, fill);
     fill_bank(high, fill);
-    let bench = fresh(low, high, 65536, two(body(file, 0), 0))?;
-    Ok(Started {
-        bench,
-        rom: section_span(file, 2),
-        script: section_span(file, 3),
-    })
+    match fresh(low, high, 65536, two(body(file, 0), 0)) {
+        Ok(bench) => Ok(Started {
+            bench,
+            rom: section_span(file, 2),
+            script: section_span(file, 3),
+        }),
+        Err(refused) => Err(refused.refusal),
+    }
 }

@@ -2,20 +2,14 @@ use mathlib.Core.Path.{◌∙◌, ap}
 use Prim.Native.Nat.{ℕ}
 use Rattle.bench.specs.Calls.{pad_call}
 use Rattle.bench.proofs.Join.{passed, host-refused, host-done}
-use Rattle.ring.proofs.Also.{port-first}
 use Rattle.ring.specs.Refusal.{port_number}
 use Rattle.bench.proofs.operate.pad.Goals as goal
-
-pub returns-in_err-lent : goal.returns-in_err-lent
-unfolding pad_call
-returns-in_err-lent c =
-    rw (passed _ c.from_residual.ensures) (host-refused _ _ _ (port-first _ c.args.port ∙ ap (λ (n : ℕ). port_number n c.args.port) c.in_err-lent.ensures))
 
 pub returns-in_err-port_allowed : goal.returns-in_err-port_allowed
 unfolding pad_call
 returns-in_err-port_allowed c =
-    rw (passed _ c.from_residual-in_err-port_allowed.ensures) (host-refused _ _ _ (c.in_err-port_allowed.ensures ∙ ap (λ (n : ℕ). port_number n c.args.port) c.in_ok-lent.ensures))
+    rw (passed _ c.from_residual.ensures) (host-refused _ _ _ (c.in_err-port_allowed.ensures ∙ ap (λ (n : ℕ). port_number n c.args.port) c.lent-lent.ensures))
 
 pub returns : goal.returns
 unfolding pad_call
-returns c = host-done _ (c.in_ok-port_allowed.ensures ∙ ap (λ (n : ℕ). port_number n c.args.port) c.in_ok-lent.ensures) c.set_pad.ensures c.host.ensures
+returns c = host-done _ (c.in_ok-port_allowed.ensures ∙ ap (λ (n : ℕ). port_number n c.args.port) c.lent-lent.ensures) c.set_pad.ensures c.host.ensures

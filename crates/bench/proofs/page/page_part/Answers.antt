@@ -6,7 +6,7 @@ use Rattle.std.proofs.Common.{rules}
 use Rattle.bench.specs.Page.{page_call}
 use Rattle.bench.proofs.{Join.passed, Looked.whole, Looked.nothing}
 use borrow.Author.Tests.{lt-ltb, le-ltb}
-use Rattle.bench.proofs.page.page_look.Goals as goal
+use Rattle.bench.proofs.page.page_part.Goals as goal
 
 pub returns-in_err-look_allowed-clause-bytes : goal.returns-in_err-look_allowed-clause-bytes
 returns-in_err-look_allowed-clause-bytes c = rw (passed _ c.from_residual.ensures) (nothing _ _ _ _ c.in_err-look_allowed.ensures)

@@ -1,8 +1,7 @@
 -- The parts of a count, joined into its definitions.
-use Rattle.std.proofs.Common.{◌≡◌, ℕ, ◌+◌, ◌-◌, ◌%◌, ◌^◌, min, Bool, true, false, eqb, List, [], ◌∷◌, refl, ap, ◌∙◌, add-one, eqb-true, Result, Ok, Err}
+use Rattle.std.proofs.Common.{◌≡◌, ℕ, ◌+◌, ◌-◌, min, Bool, true, false, eqb, List, [], ◌∷◌, refl, ap, ◌∙◌, add-one, Result, Ok, Err}
 use Rattle.std.specs.Result.{result_err}
 use mir.Val.{bool_byte}
-use Rattle.benchfile.specs.Row.{row_at}
 use Rattle.common.specs.Refusal.{number_of, result_number}
 use Rattle.common.specs.declared.refusal.Refusal.{Refusal}
 use Rattle.walk.specs.Call.{Calling, call_of}
@@ -13,8 +12,8 @@ use Rattle.touch.specs.declared.who.Who.{Who}
 use Rattle.tally.specs.Alive.{Rows, noted}
 use Rattle.tally.specs.Figure.{writes, state_number}
 use Rattle.tally.specs.File.{FileRun, file_run, file_counting, file_count}
-use Rattle.tally.specs.Run.{Tallying, keeping, count_by, refused_by, call_tallied, limit_of, step_tallied, calls_tallied, row_tallied, rows_tallied}
-use Rattle.tally.specs.declared.run.Tally.{Tally}
+use Rattle.tally.specs.Run.{Tallying, keeping, count_by, refused_by, call_tallied, step_tallied, calls_tallied, row_tallied, rows_tallied}
+use Rattle.tally.specs.declared.run.Book.{Book}
 use Rattle.tally.specs.Share.{made_by, share_by, share_of, Counted}
 use Rattle.tally.specs.declared.share.Share.{Share}
 use Rattle.tally.proofs.Writes.{length-firsts}
@@ -27,8 +26,8 @@ share-joined who held after log p e f g =
     let l = length-firsts (min log.count 11) log.items in cc
 
 -- a count that goes on still lends the same slices
-pub then_kept : (a b c : Tally) → b ≡ keeping a b → c ≡ keeping b c → c ≡ keeping a c
-then_kept a b c e f = f ∙ ap (λ (t : Tally). keeping t c) e
+pub then_kept : (a b c : Book) → b ≡ keeping a b → c ≡ keeping b c → c ≡ keeping a c
+then_kept a b c e f = f ∙ ap (λ (t : Book). keeping t c) e
 
 -- one call more of a row, one row more
 pub calls_more : {rom lent : List ℕ} (row : ℕ) (says : Row) (i : ℕ) (t : Tallying) {u v : Tallying} → u ≡ calls_tallied rom row says i t → lent ≡ rom
@@ -56,14 +55,6 @@ module _ (rom : List ℕ) (row : ℕ) (says : Row) (i : ℕ) (t : Tallying) wher
 pub err_number : (r : Result Unit Refusal) → number_of (result_err r) ≡ result_number r
 err_number (Ok u) = refl
 err_number (Err x) = refl
-
--- a row
-pub row_goes : (rom script limits : List ℕ) (row : ℕ) (t : Tallying) {says : Row} {n next : ℕ} {u : Tallying} → eqb t.number 0 ≡ true → says ≡ row_at script row
-    → n ≡ limit_of limits row says → next ≡ (row + 1) % 2 ^ 64
-    → u ≡ calls_tallied rom row says n (record { desk = t.desk; number = t.number; row = next; rows = t.rows; totals = t.totals })
-    → u ≡ row_tallied rom script limits row t
-unfolding row_tallied
-row_goes rom script limits row t e p q r v = let z = eqb-true t.number 0 e in cc
 
 -- a run of a file
 pub file-counted : (f l h e alive all kept : List ℕ) {none spare : List ℕ} {r s : FileRun} → none ≡ [] → spare ≡ 0 ∷ [] → r ≡ file_run f l h e none alive all

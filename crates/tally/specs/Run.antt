@@ -1,6 +1,6 @@
 -- A script counted: its calls one after the other, each lent what the last left, to the first that is refused. A row makes all its calls, or,
 -- where a limit is set for it, so many.
-use Rattle.std.specs.Prelude.{ℕ, zero, suc, ◌+◌, ◌/◌, ◌%◌, ◌^◌, Bool, List, length, ◌==◌, nat_lt, slice_index}
+use Rattle.std.specs.Prelude.{ℕ, ◌≡◌, zero, suc, ◌+◌, ◌/◌, ◌%◌, ◌^◌, Bool, List, length, ◌==◌, nat_lt, slice_index}
 use Rattle.common.specs.Pick.{pick}
 use Rattle.bench.specs.Calls.{Desk}
 use Rattle.benchfile.specs.Row.{row_at}
@@ -13,7 +13,7 @@ use Rattle.touch.specs.Who.{who_of}
 use Rattle.walk.specs.Call.{Calling, call_of}
 use Rattle.tally.specs.{Alive.Rows, Alive.rows, Alive.noted}
 use Rattle.tally.specs.Share.{made_by, share_of, Counted, counted, count_call}
-use Rattle.tally.specs.declared.run.Tally.{Tally}
+use Rattle.tally.specs.declared.run.Book.{Book}
 use Rattle.bus.specs.Access.{Log}
 
 -- what a count has come to: what is lent, the refusal of the last call or 0, the rows begun, which operations survive, and the totals
@@ -25,12 +25,17 @@ pub record Tallying : Type 0 where
   pub totals : List ℕ
 
 -- the same, of what the code has and what it runs on
-abbrev pub tallying : Tally → Rig → Tallying
-tallying t g = record { desk = desk_of g; number = number_of t.refusal; row = t.row; rows = rows t.top t.alive.now; totals = t.totals.now }
+abbrev pub tallying : Book → Rig → Tallying
+tallying t g =
+    let a = t.tally in record { desk = desk_of g; number = a.number; row = a.row; rows = rows a.top t.alive.now; totals = t.totals.now }
 
 -- the same slices lent, with what another has in them
-abbrev pub keeping : Tally → Tally → Tally
+abbrev pub keeping : Book → Book → Book
 keeping t u = record u { alive = record t.alive { now = u.alive.now }; totals = record t.totals { now = u.totals.now } }
+
+-- the number is that of its refusal
+abbrev pub Told : Book → Type 0
+Told t = t.tally.number ≡ number_of t.refusal
 
 -- the totals with an accepted call, by the DMA unit before it: a cycle's share; every other call adds nothing
 abbrev pub count_in : Row → Dma → Bool → DmaState → Log → List ℕ → Counted

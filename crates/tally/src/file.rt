@@ -2,7 +2,7 @@
 ghost use Rattle.std.specs.Prelude.{◌≡◌};
 ghost use Rattle.tally.specs.File.{halt_of, file_ran, file_run, file_counting, file_count};
 
-use crate::run::{Tally, tally_script};
+use crate::run::{Book, Tally, tally_script};
 use common::refusal::Refusal;
 use fields::part::part;
 use script::rig::Rig;
@@ -39,10 +39,13 @@ fn run_file(
         entries,
         rom: part(file, s.rom.at, s.rom.size),
     };
-    let mut t = Tally {
+    let mut t = Book {
+        tally: Tally {
+            number: 0,
+            row: 0,
+            top: 0,
+        },
         refusal: None,
-        row: 0,
-        top: 0,
         alive,
         totals,
     };
@@ -56,7 +59,7 @@ fn run_file(
         None => Ok(()),
         Some(refusal) => Err(Refused {
             refusal,
-            row: t.row,
+            row: t.tally.row,
         }),
     }
 }

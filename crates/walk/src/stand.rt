@@ -1,9 +1,6 @@
 // Where a script stands.
 ghost use Rattle.std.specs.Prelude.{◌≡◌};
-ghost use Rattle.common.specs.Refusal.{number_of};
 ghost use Rattle.walk.specs.Stand.{onward, counted};
-
-use common::refusal::Refusal;
 
 // The row to run next, from 0; how many of its calls were accepted, and how many of those were held.
 #[derive(Clone, Copy)]
@@ -13,13 +10,14 @@ pub struct Stand {
     pub held: u16,
 }
 
-// One call more, by its refusal and whether it was held. A refused call is never held.
-pub fn count_call(s: Stand, refusal: Option<Refusal>, held: bool) -> Stand
-    ensures { result ≡ counted s (number_of refusal) held }
+// One call more, by its refusal or 0 and whether it was held. A refused call is never held.
+#[tactic(auto, unfolding(crate::specs::Stand::counted), using(crate::proofs::Join::up_by))]
+pub fn count_call(s: Stand, number: u8, held: bool) -> Stand
+    ensures { result ≡ counted s number held }
 {
     Stand {
         next: s.next,
-        done: s.done.wrapping_add(refusal.is_none() as u16),
+        done: s.done.wrapping_add((number == 0) as u16),
         held: s.held.wrapping_add(held as u16),
     }
 }

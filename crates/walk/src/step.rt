@@ -6,6 +6,7 @@ ghost use Rattle.walk.specs.Step.{stepping, step_of};
 use crate::call::{Answer, call};
 use crate::stand::{Stand, count_call, go_on};
 use benchfile::row::{Row, row_at};
+use common::refusal::number_of;
 use script::rig::Rig;
 
 // A call made: its row, what it answered, where the script stands with it counted, and where it goes on.
@@ -25,7 +26,7 @@ pub fn next_call(rig: &mut Rig<'_>, script: &[u8], stand: Stand) -> Step
 {
     let says = row_at(script, stand.next);
     let answer = call(rig, stand.done, says);
-    let with = count_call(stand, answer.refusal, answer.held);
+    let with = count_call(stand, number_of(answer.refusal), answer.held);
     Step {
         says,
         answer,

@@ -7,7 +7,7 @@ use Rattle.tally.proofs.run.tally_calls.Goals as goal
 
 pub loop-i-init : goal.loop-i-init
 unfolding calls_tallied
-loop-i-init c = record { rig = refl; lent = refl; is = refl }
+loop-i-init c = record { rig = refl; lent = refl; told = λ e. e; is = refl }
 
 pub loop-i-preserved : goal.loop-i-preserved
 loop-i-preserved c =
@@ -15,5 +15,6 @@ loop-i-preserved c =
     let step = c.tally_step.ensures in record {
       rig = then_same c.args.rig.now _ _ at.rig step.rig;
       lent = then_kept c.args.t.now _ _ at.lent step.lent;
+      told = λ e. step.told (at.told e);
       is = calls_more _ _ _ _ at.is (ap (λ (g : Rig). g.rom.now) at.rig) step.value;
     }

@@ -1,7 +1,7 @@
 // Carries out the listed calls on standard input and prints what each answers, a line a call (docs/CALLS.md).
 #![tactic(auto)]
 
-use input::complaint::untaken;
+use input::complaint::unwritten;
 use listed::answer::LINE;
 use listed::lay::{ROM, lay_rom};
 use listed::next::next;
@@ -23,6 +23,6 @@ fn main(rt: HostRuntime) {
     let mut rom = [0u8; ROM];
     lay_rom(&mut rom);
     if let Err(error) = all(rt, &rom) {
-        untaken(rt, b"standard output", error);
+        unwritten(rt, b"standard output", error);
     }
 }

@@ -8,7 +8,7 @@ mod progress;
 
 use folder::{End, Folded, count_files};
 use input::argument_count;
-use input::complaint::{file_refused, unwritten};
+use input::complaint::{file_refused, output_failed};
 use lines::{write_files, write_table};
 use std::io;
 
@@ -26,7 +26,7 @@ fn main(rt: HostRuntime) {
     let mut ends: [End; 257] = [Ok(()); 257];
     if let Some(c) = count_files(rt, argument_count(rt), &mut ends) {
         if let Err(error) = write(rt, c, &ends) {
-            unwritten(rt, b"figures", error);
+            output_failed(rt, b"figures", error);
         }
     }
 }

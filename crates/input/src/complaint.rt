@@ -49,21 +49,21 @@ pub fn unread(rt: HostRuntime, name: &[u8], error: io::Error) {
 }
 
 // A reader that has left wants no more, and nothing is wrong.
-pub fn untaken(rt: HostRuntime, what: &[u8], error: io::Error) {
+pub fn unwritten(rt: HostRuntime, what: &[u8], error: io::Error) {
     if error.kind() != ErrorKind::BrokenPipe {
         fail(rt, what, error);
     }
 }
 
 // `page: standard output: No space left on device`
-pub fn unwritten(rt: HostRuntime, name: &[u8], error: io::Error) {
+pub fn output_failed(rt: HostRuntime, name: &[u8], error: io::Error) {
     let mut out = Sheet {
         text: &mut [0u8; 64],
         at: 0,
     };
     out.put(name);
     out.put(b": standard output");
-    untaken(rt, out.written(), error);
+    unwritten(rt, out.written(), error);
 }
 
 // `trace: expected no argument: the bench file comes on standard input`

@@ -3,11 +3,11 @@
 
 pub mod complaint;
 
-ghost use Rattle.std.specs.Prelude.{◌<◌, length, take, IfOk, IfSome};
+ghost use Rattle.std.specs.Prelude.{◌<◌, ◌≤◌, length, take, IfOk, IfSome};
 ghost use Rattle.std.specs.Io.{ReadsAtMost};
 ghost use Rattle.std.specs.Io.KnownBytes.{Consumes, IsAtEnd};
 
-use complaint::{no_argument, no_place, unread, unread_file, unwritten};
+use complaint::{no_argument, no_place, unread, unread_file};
 use dump::place::place;
 use fields::part::part;
 use std::env::{Env, FillError};
@@ -74,41 +74,35 @@ pub fn read_named<'a>(
     }
 }
 
-// What comes on standard input, as much as the buffer has room for, goes to `run`, for the program of that name. Where it cannot be read,
-// or what is written is not taken, a line says so.
-pub fn run_on_input<F: FnOnce(&[u8]) -> io::Result<()>>(
-    rt: HostRuntime,
-    name: &[u8],
-    buf: &mut [u8],
-    run: F,
-)
-    requires { F.IsAlwaysCallable run }
+// The bench on standard input, as a file or as text, as much as the buffer has room for; none where it cannot be read, which is said for
+// the program of that name.
+pub fn read_bench<'a>(rt: HostRuntime, name: &[u8], buf: &'a mut [u8]) -> Option<&'a [u8]>
+    ensures { IfSome result (λ file. length file.now ≤ length buf.old) }
 {
     match read_all(&mut rt.stdin(), buf) {
-        Ok(n) => {
-            if let Err(error) = run(&buf[..n]) {
-                unwritten(rt, name, error);
-            }
+        Ok(n) => Some(&buf[..n]),
+        Err(error) => {
+            unread(rt, name, error);
+            None
         }
-        Err(error) => unread(rt, name, error),
     }
 }
 
-// The same for a program that takes no argument; `input` is what comes on standard input.
-pub fn run_alone<F: FnOnce(&[u8]) -> io::Result<()>>(
+// The same for a program that takes no argument: where one is given, that is said and nothing is read. `input` is what comes on standard
+// input.
+pub fn read_alone<'a>(
     rt: HostRuntime,
     name: &[u8],
     input: &[u8],
-    buf: &mut [u8],
-    run: F,
-)
-    requires { F.IsAlwaysCallable run }
+    buf: &'a mut [u8],
+) -> Option<&'a [u8]>
+    ensures { IfSome result (λ file. length file.now ≤ length buf.old) }
 {
-    if argument_count(rt) == 1 {
-        run_on_input(rt, name, buf, run);
-    } else {
+    if argument_count(rt) != 1 {
         no_argument(rt, name, input);
+        return None;
     }
+    read_bench(rt, name, buf)
 }
 
 // How many arguments there are, the program's name among them.

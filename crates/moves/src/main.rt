@@ -8,8 +8,8 @@ mod write;
 
 use append::Sheet;
 use fields::part::part;
-use input::complaint::{refused, say};
-use input::{BENCH, argument_count, place_given, run_on_input};
+use input::complaint::{output_failed, refused, say};
+use input::{BENCH, argument_count, place_given, read_bench};
 use script::rig::Rig;
 use start::begin;
 use std::io;
@@ -56,7 +56,12 @@ fn show(rt: HostRuntime, file: &[u8], only: Option<u32>) -> io::Result<()> {
 
 fn with_place(rt: HostRuntime, only: Option<u32>) {
     let mut buf = [0u8; BENCH];
-    run_on_input(rt, b"moves", &mut buf, |file| show(rt, file, only));
+    let Some(file) = read_bench(rt, b"moves", &mut buf) else {
+        return;
+    };
+    if let Err(error) = show(rt, file, only) {
+        output_failed(rt, b"moves", error);
+    }
 }
 
 // Without an argument every access is listed.

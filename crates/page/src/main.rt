@@ -5,8 +5,8 @@ use append::Sheet;
 use bench::page::page_look;
 use dump::page::dump_page;
 use fields::part::part;
-use input::complaint::{refused, say};
-use input::{BENCH, argument_count, place_given, run_on_input};
+use input::complaint::{output_failed, refused, say};
+use input::{BENCH, argument_count, place_given, read_bench};
 use printout::row::Show;
 use printout::rows::run_rows;
 use script::rig::Rig;
@@ -19,7 +19,7 @@ fn write_page<'a>(rt: HostRuntime, low: &'a [u8], high: &'a [u8], page: u16) -> 
         text: &mut [0u8; 1248],
         at: 0,
     };
-    dump_page(&mut out, page, page_look(low, high, page).unwrap_or(&[]));
+    dump_page(&mut out, page, page_look(low, high, page));
     rt.write_all(out.written())
 }
 
@@ -66,7 +66,10 @@ fn main(rt: HostRuntime) {
         return;
     };
     let mut buf = [0u8; BENCH];
-    run_on_input(rt, b"page", &mut buf, |file| {
-        show(rt, file, (at / 256) as u16)
-    });
+    let Some(file) = read_bench(rt, b"page", &mut buf) else {
+        return;
+    };
+    if let Err(error) = show(rt, file, (at / 256) as u16) {
+        output_failed(rt, b"page", error);
+    }
 }

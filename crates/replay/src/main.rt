@@ -3,7 +3,7 @@
 
 use append::Sheet;
 use fields::word::four;
-use input::complaint::{fail, say, untaken};
+use input::complaint::{fail, say, unwritten};
 use input::{BENCH, read_all};
 use printout::output::write_trace;
 use std::io;
@@ -12,14 +12,14 @@ use std::io;
 enum Stop {
     CutShort,
     Unread(io::Error),
-    Untaken(io::Error),
+    Unwritten(io::Error),
 }
 
 fn complain(rt: HostRuntime, stop: Stop) {
     match stop {
         Stop::CutShort => say(rt, b"the list is cut short\n"),
         Stop::Unread(error) => fail(rt, b"standard input", error),
-        Stop::Untaken(error) => untaken(rt, b"standard output", error),
+        Stop::Unwritten(error) => unwritten(rt, b"standard output", error),
     }
 }
 
@@ -60,7 +60,7 @@ fn replay_one(rt: HostRuntime, number: u64) -> Result<bool, Stop> {
     }
     let mut buf = [0u8; BENCH];
     let file = read_file(rt, &mut buf, four(&size, 0) as usize)?;
-    write_file(rt, number, file).map_err(Stop::Untaken)?;
+    write_file(rt, number, file).map_err(Stop::Unwritten)?;
     Ok(true)
 }
 

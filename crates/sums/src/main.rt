@@ -1,8 +1,8 @@
 // Prints the sum of work RAM after each row of the bench file on standard input.
 #![tactic(auto)]
 
-use input::complaint::refused;
-use input::{BENCH, run_alone};
+use input::complaint::{output_failed, refused};
+use input::{BENCH, read_alone};
 use printout::output::write_sums;
 use std::io;
 
@@ -16,5 +16,10 @@ fn show(rt: HostRuntime, file: &[u8]) -> io::Result<()> {
 
 fn main(rt: HostRuntime) {
     let mut buf = [0u8; BENCH];
-    run_alone(rt, b"sums", b"bench file", &mut buf, |file| show(rt, file));
+    let Some(file) = read_alone(rt, b"sums", b"bench file", &mut buf) else {
+        return;
+    };
+    if let Err(error) = show(rt, file) {
+        output_failed(rt, b"sums", error);
+    }
 }

@@ -9,8 +9,8 @@ use append::Sheet;
 use assembler::assemble::assemble_text;
 use benchfile::check::file_check;
 use fields::part::part;
-use input::complaint::{fail, say};
-use input::{BENCH, read_file, run_alone};
+use input::complaint::{fail, output_failed, say};
+use input::{BENCH, read_alone, read_file};
 use lister::list::list_file;
 use message::report;
 use name::name_in;
@@ -62,7 +62,12 @@ fn with_text(rt: HostRuntime, text: &[u8]) -> io::Result<()> {
 
 // The room comes by reference: an array of this length that is lent where it is made is too long for the check.
 fn with_room(rt: HostRuntime, room: &mut [u8; TEXT]) {
-    run_alone(rt, b"assemble", b"text", room, |text| with_text(rt, text));
+    let Some(text) = read_alone(rt, b"assemble", b"text", room) else {
+        return;
+    };
+    if let Err(error) = with_text(rt, text) {
+        output_failed(rt, b"assemble", error);
+    }
 }
 
 pub fn assemble(rt: HostRuntime) {
@@ -84,11 +89,10 @@ fn listed(rt: HostRuntime, file: &[u8]) -> io::Result<()> {
 
 pub fn list(rt: HostRuntime) {
     let mut buf = [0u8; BENCH];
-    run_alone(
-        rt,
-        b"list",
-        b"bench file",
-        &mut buf,
-        |file| listed(rt, file),
-    );
+    let Some(file) = read_alone(rt, b"list", b"bench file", &mut buf) else {
+        return;
+    };
+    if let Err(error) = listed(rt, file) {
+        output_failed(rt, b"list", error);
+    }
 }

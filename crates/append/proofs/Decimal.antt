@@ -79,11 +79,15 @@ few-by k n h f false e =
 pub few : (k n : ℕ) → n < 2 ^ 64 → IsDigitCount 10 1 n k → k ≤ 20
 few k n h f = few-by k n h f (leb k 20) refl
 
--- what io::decimal writes: the fewest digits that hold a number of 64 bits
-pub spelled : (k n : ℕ) → n < 2 ^ 64 → IsDigitCount 10 1 n k → last_digits 10 k n ≡ decimal n
+-- what io::decimal writes: the fewest digits that hold a number, of which there are at most 20
+pub spelled : (k n : ℕ) → k ≤ 20 → IsDigitCount 10 1 n k → last_digits 10 k n ≡ decimal n
 unfolding decimal
-spelled zero n f h = absurd (omega arith)
-spelled (suc k) n f h = spelled_in 20 k n (few (suc k) n f h) h.1 (λ z. simp unary_clauses at (h.2 (omega arith)))
+spelled zero n m h = absurd (omega arith)
+spelled (suc k) n m h = spelled_in 20 k n m h.1 (λ z. simp unary_clauses at (h.2 (omega arith)))
+
+-- as those of a number of 64 bits are
+pub spelled_u64 : (k n : ℕ) → n < 2 ^ 64 → IsDigitCount 10 1 n k → last_digits 10 k n ≡ decimal n
+spelled_u64 k n f h = spelled k n (few k n f h) h
 
 -- as many as it says
 as_many : (k n : ℕ) → length (last_digits 10 k n) ≡ k
@@ -95,5 +99,5 @@ pub put_column : (s : Sheet) (w k n : ℕ) → n < 2 ^ 64 → IsDigitCount 10 1 
     → foldl push (foldl push s (replicate (w - k) 32)) (last_digits 10 k n) ≡ foldl push s (padded w n)
 unfolding padded
 put_column s w k n f h =
-    let z : length (decimal n) ≡ k = ap length (sym (spelled k n f h)) ∙ as_many k n in
-    rw (z, spelled k n f h) (sym (foldl-append push s (replicate (w - k) 32) (decimal n)))
+    let z : length (decimal n) ≡ k = ap length (sym (spelled_u64 k n f h)) ∙ as_many k n in
+    rw (z, spelled_u64 k n f h) (sym (foldl-append push s (replicate (w - k) 32) (decimal n)))

@@ -49,7 +49,7 @@ impl<'a> Sheet<'a> {
     }
 
     // A number in decimal.
-    #[tactic(auto, using(crate::proofs::Decimal::spelled))]
+    #[tactic(auto, using(crate::proofs::Decimal::spelled_u64))]
     pub fn decimal(&mut self, n: u64)
         ensures { self.new ≡ putting self.old (Number·decimal n) }
     {

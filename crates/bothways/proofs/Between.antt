@@ -11,12 +11,12 @@ use Rattle.reader.specs.declared.reader.Reader.{Reader}
 use Rattle.reader.specs.Reader.{read_of, reads}
 use Rattle.lister.specs.Row.{row_text}
 use Rattle.assembler.specs.Desk.{State, front_of, rom_of, script_of, stepped, runs, made, added}
-use Rattle.bothways.proofs.Quietly.{quietly, quietly-reads, quietly-runs}
+use Rattle.bothways.proofs.Quietly.{is_loud, quietly, quietly-reads, quietly-runs}
 use Rattle.bothways.proofs.{Rows.Open, Rows.before, Row.row-quiet, Row.row-added}
 use Rattle.reader.specs.declared.kinds.{Phase.Phase, Kind.Kind, Emit.Emit}
 use Rattle.reader.specs.declared.kinds.Phase.TheVariants as phases
 use Rattle.reader.specs.declared.kinds.Emit.TheVariants as emits
-use Rattle.reader.specs.Draft.{has_failed, failed_by}
+use Rattle.reader.specs.Draft.{failed_by}
 use Rattle.bothways.proofs.RowKind.{kind_at}
 use Rattle.bothways.proofs.Quietly.{silent_by}
 
@@ -36,7 +36,7 @@ module _ (p : Phase) (k : Kind) (x₁ x₂ x₃ x₄ : ℕ) (e : Emit) (ok : fai
   unfolding read_of
   quieted c = rw ok
 
-  module _ (q : Reader) (fine : has_failed q.draft ≡ false) where
+  module _ (q : Reader) (fine : is_loud q.draft ≡ false) where
     pub line_reads : (c : ℕ) (t : List ℕ) → quietly (before p k x₁ x₂ x₃ x₄ emits.Nothing) (c ∷ t) ≡ q → reads (before p k x₁ x₂ x₃ x₄ e) (c ∷ t) ≡ q
     unfolding quietly reads
     line_reads c t h = ap (λ (r : Reader). reads r t) (quieted c) ∙ quietly-reads q fine (read_of (before p k x₁ x₂ x₃ x₄ emits.Nothing) c) t h

@@ -15,12 +15,21 @@ use Rattle.reader.specs.declared.kinds.Expected.TheVariants as wants
 use Rattle.reader.specs.declared.kinds.Kind.TheVariants as kinds
 use Rattle.reader.specs.declared.kinds.Emit.TheVariants as emits
 use Rattle.reader.specs.declared.word.Form.TheVariants as forms
-use Rattle.reader.specs.Draft.{has_failed}
+use Rattle.reader.specs.declared.draft.Draft.{Draft}
+use Rattle.reader.specs.Line.{fresh}
 use Rattle.reader.specs.Word.{in_name}
 
--- a reader that has failed
+-- no reader of a text is this: only a line's end completes a row, and behind it a line is expected
 abbrev pub loud : Reader
-loud = reader (blank_word forms.Between) (draft phases.Nothing wants.Line kinds.Nothing 0 0 0 0 emits.Failed)
+loud = reader (blank_word forms.Between) (draft phases.Nothing wants.End kinds.Nothing 0 0 0 0 emits.Row)
+
+abbrev pub row_by : Emit → Bool
+row_by emits.Row = true
+row_by _ = false
+
+-- a row is completed, and its line goes on
+abbrev pub is_loud : Draft → Bool
+is_loud d = row_by d.emit && not (fresh d.expected)
 
 abbrev pub silent_by : Emit → Bool
 silent_by emits.Nothing = true
@@ -44,10 +53,10 @@ pub one : (file : List ℕ) (f o s : Sheet) (r : Reader) (c : ℕ) → stepped f
 unfolding stepped
 one file f o s r c = refl
 
-module _ (q : Reader) (fine : has_failed q.draft ≡ false) where
+module _ (q : Reader) (fine : is_loud q.draft ≡ false) where
   -- loud is not fine
   pub not-loud : {A : Type 0} → loud ≡ q → A
-  not-loud e = absurd (false≢true (sym fine ∙ ap (λ (r : Reader). has_failed r.draft) (sym e)))
+  not-loud e = absurd (false≢true (sym fine ∙ ap (λ (r : Reader). is_loud r.draft) (sym e)))
 
   quiet_read : (b : Bool) (r : Reader) (t : List ℕ) → (quietly r t ≡ q → reads r t ≡ q) → pick b (quietly r t) loud ≡ q → reads r t ≡ q
   quiet_read true r t ih e = ih e

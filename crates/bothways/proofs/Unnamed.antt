@@ -8,11 +8,11 @@ use Rattle.common.specs.Pick.{pick}
 use Rattle.reader.specs.declared.reader.Reader.{Reader}
 use Rattle.reader.specs.Reader.{read_of, reads, until_from, name_at}
 use Rattle.assembler.specs.Desk.{State, stepped, runs}
-use Rattle.bothways.proofs.Quietly.{loud, calm, quietly, not-loud}
+use Rattle.bothways.proofs.Quietly.{loud, is_loud, calm, quietly, not-loud}
 use Rattle.bothways.proofs.{Rows.before, Between.quieted}
 use Rattle.reader.specs.declared.kinds.{Phase.Phase, Kind.Kind, Emit.Emit}
 use Rattle.reader.specs.declared.kinds.Emit.TheVariants as emits
-use Rattle.reader.specs.Draft.{has_failed, failed_by}
+use Rattle.reader.specs.Draft.{failed_by}
 use Rattle.reader.specs.Word.{in_name}
 use Rattle.std.specs.Prelude.{Option, Some, None}
 use Rattle.bothways.proofs.Quietly.{silent_by}
@@ -67,7 +67,7 @@ pub unnamed_runs : (file : List ℕ) (k : State) (a b : List ℕ) → Unnamed k.
 unnamed_runs file k a b h g = unnamed_append k.reader a b h (subst (λ (r : Reader). Unnamed r b) (runs-reads file k a) g)
 
 -- what is read quietly has no name
-module _ (q : Reader) (fine : has_failed q.draft ≡ false) where
+module _ (q : Reader) (fine : is_loud q.draft ≡ false) where
   quiet_step : (r : Reader) (c : ℕ) (t : List ℕ) (b : Bool) → calm r ≡ b → (quietly (read_of r c) t ≡ q → Unnamed (read_of r c) t)
       → pick b (quietly (read_of r c) t) loud ≡ q → Unnamed r (c ∷ t)
   quiet_step r c t true z ih e =

@@ -16,7 +16,10 @@ pair_of a b = pair_by (digit_of a) (digit_of b)
 -- $7E:0000 to $7F:FFFF, by the bank and the two bytes of the address
 unfoldable pub offset_of : ℕ → ℕ → ℕ → Option ℕ
 offset_of bank high low =
-    pick (ltb bank 126) None (pick (ltb 127 bank) None (Some ((bank - 126) * 65536 + high * 256 + low)))
+    pick (ltb bank 126) None
+    (pick (ltb 127 bank) None
+    (pick (ltb 255 high) None
+    (pick (ltb 255 low) None (Some ((bank - 126) * 65536 + high * 256 + low)))))
 
 abbrev pub offset_by : Option ℕ → Option ℕ → Option ℕ → Option ℕ
 offset_by (Some bank) (Some high) (Some low) = offset_of bank high low

@@ -1,6 +1,6 @@
 // One character of the text.
 ghost use Rattle.std.specs.Prelude.{◌≡◌};
-ghost use Rattle.reader.specs.Reader.{reader, start_of, quiet_of, idle_of, shut_of, gap_of, spaced_of, naming_of, plain_of, step_of, read_of};
+ghost use Rattle.reader.specs.Reader.{start_of, quiet_of, idle_of, shut_of, gap_of, spaced_of, naming_of, plain_of, step_of, read_of};
 
 use crate::draft::{Draft, has_failed};
 use crate::kinds::{Emit, Expected, Kind, Phase};
@@ -35,15 +35,12 @@ pub fn start() -> Reader
 }
 
 // What was completed before is done with.
-fn quiet(r: Reader) -> Reader
-    ensures { result ≡ reader r.word (quiet_of r.draft) }
+fn quiet(d: Draft) -> Draft
+    ensures { result ≡ quiet_of d }
 {
-    Reader {
-        draft: Draft {
-            emit: Emit::Nothing,
-            ..r.draft
-        },
-        ..r
+    Draft {
+        emit: Emit::Nothing,
+        ..d
     }
 }
 
@@ -56,13 +53,13 @@ fn idle(form: Form) -> bool
 
 // The draft when the word ends.
 #[tactic(auto, unfolding(crate::specs::Reader::shut_of))]
-fn shut(r: Reader) -> Draft
-    ensures { result ≡ shut_of r.word r.draft }
+fn shut(w: Word, d: Draft) -> Draft
+    ensures { result ≡ shut_of w d }
 {
-    if idle(r.word.form) {
-        return r.draft;
+    if idle(w.form) {
+        return d;
     }
-    taken(r.draft, meaning(r.word))
+    taken(d, meaning(w))
 }
 
 // Behind `file` all up to the line's end or a comment is the name.
@@ -76,10 +73,10 @@ fn gap(expected: Expected) -> Form
 }
 
 #[tactic(auto, unfolding(crate::specs::Reader::spaced_of))]
-fn spaced(r: Reader) -> Reader
-    ensures { result ≡ spaced_of r.word r.draft }
+fn spaced(w: Word, d: Draft) -> Reader
+    ensures { result ≡ spaced_of w d }
 {
-    let draft = shut(r);
+    let draft = shut(w, d);
     Reader {
         word: blank(gap(draft.expected)),
         draft,
@@ -88,21 +85,21 @@ fn spaced(r: Reader) -> Reader
 
 // A character of a file name.
 #[tactic(auto, unfolding(crate::specs::Reader::naming_of))]
-fn naming(r: Reader, s: Sign) -> Reader
-    ensures { result ≡ naming_of r.word r.draft s }
+fn naming(word: Word, draft: Draft, s: Sign) -> Reader
+    ensures { result ≡ naming_of word draft s }
 {
     match s {
         Sign::Comment => Reader {
             word: blank(Form::Comment),
-            ..r
+            draft,
         },
-        Sign::Space => r,
+        Sign::Space => Reader { word, draft },
         _ => Reader {
+            word,
             draft: Draft {
                 expected: Expected::End,
-                ..r.draft
+                ..draft
             },
-            ..r
         },
     }
 }
@@ -122,24 +119,24 @@ fn plain(w: Word, s: Sign, c: u8) -> Word
 
 // A character of sign s, where nothing has failed.
 #[tactic(auto, unfolding(crate::specs::Reader::step_of))]
-fn step(r: Reader, s: Sign, c: u8) -> Reader
-    ensures { result ≡ step_of r.word r.draft s c }
+fn step(word: Word, draft: Draft, s: Sign, c: u8) -> Reader
+    ensures { result ≡ step_of word draft s c }
 {
-    match (s, r.word.form) {
+    match (s, word.form) {
         (Sign::LineEnd, _) => Reader {
             word: blank(Form::Between),
-            draft: line_end(shut(r)),
+            draft: line_end(shut(word, draft)),
         },
-        (_, Form::Comment) => r,
-        (_, Form::Name) => naming(r, s),
+        (_, Form::Comment) => Reader { word, draft },
+        (_, Form::Name) => naming(word, draft, s),
         (Sign::Comment, _) => Reader {
             word: blank(Form::Comment),
-            draft: shut(r),
+            draft: shut(word, draft),
         },
-        (Sign::Space, _) => spaced(r),
+        (Sign::Space, _) => spaced(word, draft),
         _ => Reader {
-            word: plain(r.word, s, c),
-            ..r
+            word: plain(word, s, c),
+            draft,
         },
     }
 }
@@ -152,5 +149,5 @@ pub fn read(r: Reader, c: u8) -> Reader
     if has_failed(r.draft) {
         return r;
     }
-    step(quiet(r), sign(c), c)
+    step(r.word, quiet(r.draft), sign(c), c)
 }

@@ -16,34 +16,30 @@ fn laid(figures: [u64; 29], place: u8, n: u64) -> [u64; 29] {
     out
 }
 
-// Says a figure that changed, with what it is now.
-fn tell(
-    rt: HostRuntime,
-    whose: &[u8],
-    what: &[u8],
-    place: usize,
-    before: u64,
-    after: u64,
-) -> io::Result<()> {
-    if before == after {
-        return Ok(());
-    }
+// A figure that changed, with what it is now.
+fn tell(rt: HostRuntime, whose: &[u8], what: &[u8], place: usize, now: u64) -> io::Result<()> {
     say(rt, whose)?;
     say_named(rt, what, place as u64)?;
-    say_named(rt, b" is ", after)
+    say_named(rt, b" is ", now)
 }
 
+// Those that changed; answers whether none did, as most tries have it.
 fn tell_all(
     rt: HostRuntime,
     whose: &[u8],
     what: &[u8],
     before: &[u64; 29],
     after: &[u64; 29],
-) -> io::Result<()> {
-    for (place, (old, new)) in before.iter().zip(after).enumerate() {
-        tell(rt, whose, what, place, *old, *new)?;
+) -> io::Result<bool> {
+    if before == after {
+        return Ok(true);
     }
-    Ok(())
+    for (place, old) in before.iter().enumerate() {
+        if *old != after[place] {
+            tell(rt, whose, what, place, after[place])?;
+        }
+    }
+    Ok(false)
 }
 
 fn share(given: &[u8]) -> Share {
@@ -63,8 +59,8 @@ pub fn count_tried(rt: HostRuntime, given: &[u8]) -> io::Result<()> {
     let before = laid([7u64; 29], byte(given, 40), eight(given, 0));
     let mut after = before;
     let counted = count(&mut after, share(given));
-    tell_all(rt, b", ", b"total ", &before, &after)?;
-    say_end(rt, counted.err(), before == after)
+    let same = tell_all(rt, b", ", b"total ", &before, &after)?;
+    say_end(rt, counted.err(), same)
 }
 
 // The column of files of which the first has one figure, and the others are at 0.
@@ -77,14 +73,11 @@ fn column(place: u8, figure: u64) -> Column {
     }
 }
 
-fn tell_column(rt: HostRuntime, whose: &[u8], before: Column, after: Column) -> io::Result<()> {
-    tell_all(rt, whose, b"total ", &before.sum, &after.sum)?;
-    tell_all(rt, whose, b"largest ", &before.most, &after.most)?;
-    tell_all(rt, whose, b"file ", &before.file, &after.file)
-}
-
-fn same_column(a: Column, b: Column) -> bool {
-    (a.sum == b.sum) & (a.most == b.most) & (a.file == b.file)
+fn tell_column(rt: HostRuntime, whose: &[u8], before: &Column, after: &Column) -> io::Result<bool> {
+    let sum = tell_all(rt, whose, b"total ", &before.sum, &after.sum)?;
+    let most = tell_all(rt, whose, b"largest ", &before.most, &after.most)?;
+    let file = tell_all(rt, whose, b"file ", &before.file, &after.file)?;
+    Ok(sum & most & file)
 }
 
 fn added(rt: HostRuntime, f: Folder, all: Figures, alive: Figures) -> io::Result<()> {
@@ -93,10 +86,9 @@ fn added(rt: HostRuntime, f: Folder, all: Figures, alive: Figures) -> io::Result
     if f.files != after.files {
         say_named(rt, b", files ", after.files)?;
     }
-    tell_column(rt, b", all ", f.all, after.all)?;
-    tell_column(rt, b", survivors ", f.alive, after.alive)?;
-    let same = same_column(f.all, after.all) & same_column(f.alive, after.alive);
-    say_end(rt, made.err(), same & (f.files == after.files))
+    let both = tell_column(rt, b", all ", &f.all, &after.all)?;
+    let kept = tell_column(rt, b", survivors ", &f.alive, &after.alive)?;
+    say_end(rt, made.err(), both & kept & (f.files == after.files))
 }
 
 // Given are how many files there are, a figure of the first of them, the same figure of the file added; the column, 1 for the survivors;

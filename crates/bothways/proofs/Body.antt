@@ -15,7 +15,7 @@ use Rattle.reader.specs.Line.{taken_of, closing_of, line_of}
 use Rattle.reader.specs.Reader.{reader, shut_of, spaced_of, plain_of, step_of, read_of}
 use Rattle.lister.specs.Body.{bytes_text}
 use Rattle.assembler.specs.Desk.{State, front_of, rom_of, script_of, stepped, runs, made, added}
-use Rattle.bothways.proofs.Quietly.{quietly, quietly-runs, one}
+use Rattle.bothways.proofs.Quietly.{loud, quietly, quietly_or, not-loud, quietly-runs, one}
 use Rattle.bothways.proofs.{Digits.plain, Digits.byte-first, Rows.before}
 use Rattle.reader.specs.declared.kinds.{Phase.Phase, Expected.Expected, Kind.Kind, Emit.Emit}
 use Rattle.reader.specs.declared.kinds.Phase.TheVariants as phases
@@ -142,8 +142,8 @@ gain_gain rom r f o s x l = refl
 
 -- the two digits behind `$`
 pub digits : (b : Section) (x z : ℕ) → z < 256 → quietly (dollar_read b x) (glyph_of (z / 16) ∷ glyph_of z ∷ []) ≡ byte_read b false z x
-unfolding quietly
-digits b x z h = byte-first (late b) (more_of b) (kind_of b) x 0 0 0 plain [] 0 z h
+unfolding quietly_or
+digits b x z h = byte-first loud (late b) (more_of b) (kind_of b) x 0 0 0 plain [] 0 z h
 
 -- one byte more
 module _ (file : List ℕ) (b : Section) (i : Bool) (f o s : Sheet) (x y z : ℕ) (lx : x < 256) (lz : z < 256) (t : List ℕ) where
@@ -167,7 +167,7 @@ module _ (file : List ℕ) (b : Section) (i : Bool) (f o s : Sheet) (x y z : ℕ
       ∙ ap (λ (k : State). runs file k (glyph_of (z / 16) ∷ glyph_of z ∷ t)) at-dollar
       ∙ foldl-append (stepped file) (added file front image s (dollar_read b x)) (glyph_of (z / 16) ∷ glyph_of z ∷ []) t
       ∙ ap (λ (k : State). runs file k t)
-      (quietly-runs (byte_read b false z x) refl file front image s (dollar_read b x) (glyph_of (z / 16) ∷ glyph_of z ∷ []) (digits b x z lz)
+      (quietly-runs (not-loud (byte_read b false z x) refl) file front image s (dollar_read b x) (glyph_of (z / 16) ∷ glyph_of z ∷ []) (digits b x z lz)
       ∙ nothing file b front image s z x false)
 
 -- the last byte of a line

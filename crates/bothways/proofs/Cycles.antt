@@ -13,7 +13,7 @@ use Rattle.reader.specs.Word.{word, letter_of, meaning_of}
 use Rattle.reader.specs.Number.{number_of}
 use Rattle.reader.specs.Line.{named_of, taken_of, closing_of, line_of}
 use Rattle.reader.specs.Reader.{reader, shut_of, spaced_of, plain_of, step_of, read_of}
-use Rattle.bothways.proofs.{Quietly.calm, Quietly.quietly, Decimal.decimal-back}
+use Rattle.bothways.proofs.{Quietly.loud, Quietly.calm, Quietly.quietly, Quietly.quietly_or, Decimal.decimal-back}
 use Rattle.append.specs.{Number.decimal, Texts.codes}
 use Rattle.lister.specs.Row.{event_text, flags_text, cycles_text}
 use Rattle.bothways.proofs.Rows.{Open, before, at, cycles-row, row_word}
@@ -33,21 +33,21 @@ pub data Flags : ℕ → Type 0 where
 
 module _ (l h v : ℕ) where
   line-end : quietly (at wants.Options kinds.Cycles l h v 0) (codes "line\n") ≡ before phases.Rows kinds.Cycles l h v 1 emits.Row
-  unfolding quietly read_of step_of plain_of letter_of sign_of digit_of spaced_of shut_of taken_of named_of option_of meaning_of line_of closing_of
+  unfolding quietly_or read_of step_of plain_of letter_of sign_of digit_of spaced_of shut_of taken_of named_of option_of meaning_of line_of closing_of
   line-end = refl
 
   timer-end : quietly (at wants.Options kinds.Cycles l h v 0) (codes "timer\n") ≡ before phases.Rows kinds.Cycles l h v 2 emits.Row
-  unfolding quietly read_of step_of plain_of letter_of sign_of digit_of spaced_of shut_of taken_of named_of option_of meaning_of line_of closing_of
+  unfolding quietly_or read_of step_of plain_of letter_of sign_of digit_of spaced_of shut_of taken_of named_of option_of meaning_of line_of closing_of
   timer-end = refl
 
   both_end : quietly (at wants.Options kinds.Cycles l h v 0) (codes "line timer\n") ≡ before phases.Rows kinds.Cycles l h v 3 emits.Row
-  unfolding quietly read_of step_of plain_of letter_of sign_of digit_of spaced_of shut_of taken_of named_of option_of meaning_of line_of closing_of
+  unfolding quietly_or read_of step_of plain_of letter_of sign_of digit_of spaced_of shut_of taken_of named_of option_of meaning_of line_of closing_of
   both_end = refl
 
   -- the flags behind a number
   tail : (w : Reader) → calm w ≡ true → read_of w 32 ≡ at wants.Options kinds.Cycles l h v 0 → read_of w 10 ≡ before phases.Rows kinds.Cycles l h v 0 emits.Row → (f : ℕ) → Flags f
       → quietly w (flags_text f ++ codes "\n") ≡ before phases.Rows kinds.Cycles l h v f emits.Row
-  unfolding quietly flags_text
+  unfolding quietly_or flags_text
   tail w z s e f none = rw z e
   tail w z s e f line = rw z (ap (λ (x : Reader). quietly x (codes "line\n")) s ∙ line-end)
   tail w z s e f timer = rw z (ap (λ (x : Reader). quietly x (codes "timer\n")) s ∙ timer-end)
@@ -88,17 +88,17 @@ module _ (l h v : ℕ) (lv : v < 256) where
       rw (le-leb 0 v (omega arith), le-leb v 255 (omega arith), q)
 
   event-word : (t : List ℕ) → quietly (at wants.Options kinds.Cycles l h 0 0) (codes "event " ++ t) ≡ quietly (at wants.Event kinds.Cycles l h 0 0) t
-  unfolding quietly read_of step_of plain_of letter_of sign_of digit_of spaced_of shut_of taken_of named_of option_of meaning_of
+  unfolding quietly_or read_of step_of plain_of letter_of sign_of digit_of spaced_of shut_of taken_of named_of option_of meaning_of
   event-word t = refl
 
   -- an event behind the count
   event : (w : Reader) → calm w ≡ true → read_of w 32 ≡ at wants.Options kinds.Cycles l h 0 0 → (t : List ℕ) → quietly w ((codes " event " ++ decimal v) ++ t) ≡ quietly timed t
-  unfolding quietly
+  unfolding quietly_or
   event w z s t =
       rw z
       (ap (λ (x : Reader). quietly x (codes "event " ++ decimal v ++ t)) s
       ∙ event-word (decimal v ++ t)
-      ∙ decimal-back phases.Rows wants.Event kinds.Cycles l h 0 0 v t (omega arith))
+      ∙ decimal-back loud phases.Rows wants.Event kinds.Cycles l h 0 0 v t (omega arith))
 
 module _ (n v f : ℕ) (f1 : 1 ≤ n) (ln : n < 65536) (lv : v < 256) (flags : Flags f) where
   rest : (b : Bool) → eqb v 0 ≡ b
@@ -116,6 +116,6 @@ module _ (n v f : ℕ) (f1 : 1 ≤ n) (ln : n < 65536) (lv : v < 256) (flags : F
       → quietly (before p k x₁ x₂ x₃ x₄ emits.Nothing) (cycles_text n v f) ≡ before phases.Rows kinds.Cycles (n % 256) (n / 256) v f emits.Row
   unfolding cycles_text event_text
   cycles-back k x₁ x₂ x₃ x₄ p o =
-      row_word k x₁ x₂ x₃ x₄ (decimal n ++ (event_text v ++ (flags_text f ++ codes "\n"))) p o cycles-row
-      ∙ decimal-back phases.Rows wants.Count kinds.Cycles 0 0 0 0 n (event_text v ++ (flags_text f ++ codes "\n")) ln
+      row_word loud k x₁ x₂ x₃ x₄ (decimal n ++ (event_text v ++ (flags_text f ++ codes "\n"))) p o cycles-row
+      ∙ decimal-back loud phases.Rows wants.Count kinds.Cycles 0 0 0 0 n (event_text v ++ (flags_text f ++ codes "\n")) ln
       ∙ rest (eqb v 0) refl

@@ -9,11 +9,12 @@ use borrow.Author.Tests.{lt-ltb, ltb-true, ltb-false, ne_eqb}
 use Rattle.common.specs.Pick.{pick}
 use Rattle.common.proofs.RangeLaws.{inside, above}
 use Rattle.reader.specs.declared.draft.Draft.{Draft}
+use Rattle.reader.specs.declared.reader.Reader.{Reader}
 use Rattle.reader.specs.declared.sign.Sign.TheVariants.{Other}
 use Rattle.std.specs.Prelude.{Some}
 use Rattle.reader.specs.{Letter.sign_of, Letter.digit_of, Word.word, Word.letter_of, Draft.draft}
 use Rattle.reader.specs.Reader.{reader, plain_of, step_of, read_of}
-use Rattle.bothways.proofs.Quietly.{quietly}
+use Rattle.bothways.proofs.Quietly.{quietly_or}
 use Rattle.append.specs.Number.{glyph_of}
 use Rattle.reader.specs.declared.kinds.{Phase.Phase, Expected.Expected, Kind.Kind}
 use Rattle.reader.specs.declared.kinds.Emit.TheVariants as emits
@@ -83,29 +84,29 @@ pub data Hex : Form → Form → Type 0 where
   plain : Hex forms.Dollar forms.Hex
   banked : Hex forms.Colon forms.Banked
 
--- a quiet draft
-module _ (p : Phase) (s : Expected) (k : Kind) (x₁ x₂ x₃ x₄ : ℕ) where
+-- any mark m, and a quiet draft
+module _ (m : Reader) (p : Phase) (s : Expected) (k : Kind) (x₁ x₂ x₃ x₄ : ℕ) where
   abbrev quiet : Draft
   quiet = draft p s k x₁ x₂ x₃ x₄ emits.Nothing
 
   -- the first digit of a number
   hex_first : {e f : Form} → Hex e f → (t : List ℕ) (b x : ℕ)
-      → quietly (reader (word e 0 b) quiet) (glyph_of x ∷ t) ≡ quietly (reader (word f (x % 16) b) quiet) t
-  unfolding quietly read_of step_of plain_of letter_of
+      → quietly_or m (reader (word e 0 b) quiet) (glyph_of x ∷ t) ≡ quietly_or m (reader (word f (x % 16) b) quiet) t
+  unfolding quietly_or read_of step_of plain_of letter_of
   hex_first plain t b x = rw (glyph-sign x, glyph-digit x, lt-ltb (x % 16) 16 (small x), nought x)
   hex_first banked t b x = rw (glyph-sign x, glyph-digit x, lt-ltb (x % 16) 16 (small x), nought x)
 
   -- one digit more
   hex_more : {e f : Form} → Hex e f → (t : List ℕ) (v b x : ℕ) → v < 72057594037927936
-      → quietly (reader (word f v b) quiet) (glyph_of x ∷ t) ≡ quietly (reader (word f (v * 16 + x % 16) b) quiet) t
-  unfolding quietly read_of step_of plain_of letter_of
+      → quietly_or m (reader (word f v b) quiet) (glyph_of x ∷ t) ≡ quietly_or m (reader (word f (v * 16 + x % 16) b) quiet) t
+  unfolding quietly_or read_of step_of plain_of letter_of
   hex_more plain t v b x h = rw (glyph-sign x, glyph-digit x, lt-ltb (x % 16) 16 (small x), lt-ltb v 72057594037927936 h)
   hex_more banked t v b x h = rw (glyph-sign x, glyph-digit x, lt-ltb (x % 16) 16 (small x), lt-ltb v 72057594037927936 h)
 
   module _ {e f : Form} (n : Hex e f) where
     -- the two digits of its first byte
     pub byte-first : (t : List ℕ) (b x : ℕ) → x < 256
-        → quietly (reader (word e 0 b) quiet) (glyph_of (x / 16) ∷ glyph_of x ∷ t) ≡ quietly (reader (word f x b) quiet) t
+        → quietly_or m (reader (word e 0 b) quiet) (glyph_of (x / 16) ∷ glyph_of x ∷ t) ≡ quietly_or m (reader (word f x b) quiet) t
     byte-first t b x h =
         let i : x / 16 % 16 * 16 + x % 16 ≡ x = omega arith in
         let l : x / 16 % 16 < 72057594037927936 = omega arith in
@@ -113,9 +114,9 @@ module _ (p : Phase) (s : Expected) (k : Kind) (x₁ x₂ x₃ x₄ : ℕ) where
 
     -- one byte more
     pub byte_more : (t : List ℕ) (v b x : ℕ) → v < 65536 → x < 256
-        → quietly (reader (word f v b) quiet) (glyph_of (x / 16) ∷ glyph_of x ∷ t) ≡ quietly (reader (word f (v * 256 + x) b) quiet) t
+        → quietly_or m (reader (word f v b) quiet) (glyph_of (x / 16) ∷ glyph_of x ∷ t) ≡ quietly_or m (reader (word f (v * 256 + x) b) quiet) t
     byte_more t v b x k h =
         let i : (v * 16 + x / 16 % 16) * 16 + x % 16 ≡ v * 256 + x = omega arith in
         let l : v < 72057594037927936 = omega arith in
-        let m : v * 16 + x / 16 % 16 < 72057594037927936 = omega arith in
-        hex_more n (glyph_of x ∷ t) v b (x / 16) l ∙ hex_more n t (v * 16 + x / 16 % 16) b x m ∙ rw i
+        let f : v * 16 + x / 16 % 16 < 72057594037927936 = omega arith in
+        hex_more n (glyph_of x ∷ t) v b (x / 16) l ∙ hex_more n t (v * 16 + x / 16 % 16) b x f ∙ rw i

@@ -19,7 +19,7 @@ use Rattle.reader.specs.Reader.{reader, shut_of, spaced_of, plain_of, step_of, r
 use Rattle.lister.specs.Body.{bytes_text, line_text, lines_from, lines_text}
 use Rattle.lister.specs.{Row.row_text, List.rows_text, List.script_text}
 use Rattle.assembler.specs.Desk.{State, stepped, runs, made}
-use Rattle.bothways.proofs.{Quietly.quietly, Digits.plain, Digits.byte-first}
+use Rattle.bothways.proofs.{Quietly.loud, Quietly.quietly, Quietly.quietly_or, Quietly.not-loud, Digits.plain, Digits.byte-first}
 use Rattle.bothways.proofs.Rows.{Open, rows, before}
 use Rattle.bothways.proofs.Between.{Rest, line-runs, row_line}
 use Rattle.bothways.proofs.Body.{Section, fill, rom, word_of, early, late, kind_of, first_of, emit_of, to_front, to_rom, byte_read, line_read, last_of, gained, nothing, bytes_run}
@@ -41,17 +41,17 @@ module _ (k : Kind) (x₁ x₂ x₃ x₄ : ℕ) (z : ℕ) (lz : z < 256) where
 
   word-dollar : (b : Section) (a t : List ℕ)
       → quietly (before (phase_of b a) k x₁ x₂ x₃ x₄ emits.Nothing) (word_of b ++ (codes " $" ++ t)) ≡ quietly (reader (word forms.Dollar 0 0) (draft (late b) (first_of b) (kind_of b) 0 0 0 0 emits.Nothing)) t
-  unfolding quietly read_of step_of plain_of letter_of sign_of digit_of dollar_of spaced_of shut_of taken_of named_of keyword_of meaning_of
+  unfolding quietly_or read_of step_of plain_of letter_of sign_of digit_of dollar_of spaced_of shut_of taken_of named_of keyword_of meaning_of
   word-dollar fill [] t = refl
   word-dollar fill (x ∷ a) t = refl
   word-dollar rom [] t = refl
   word-dollar rom (x ∷ a) t = refl
 
   pub opening : (b : Section) (a : List ℕ) → quietly (before (phase_of b a) k x₁ x₂ x₃ x₄ emits.Nothing) (word_of b ++ start) ≡ byte_read b true z 0
-  unfolding quietly
+  unfolding quietly_or
   opening b a =
       word-dollar b a (glyph_of (z / 16) ∷ glyph_of z ∷ [])
-      ∙ byte-first (late b) (first_of b) (kind_of b) 0 0 0 0 plain [] 0 z lz
+      ∙ byte-first loud (late b) (first_of b) (kind_of b) 0 0 0 0 plain [] 0 z lz
 
 -- the first character of the word, and the others
 abbrev pub head : Section → ℕ
@@ -84,7 +84,7 @@ module _ (file : List ℕ) (b : Section) (f o s : Sheet) where
     opened : runs file was (head b ∷ (letters b ++ (codes " $" ++ glyph_of (z / 16) ∷ glyph_of z ∷ [])))
         ≡ made (byte_read b true z 0) (puts f (to_front b a)) (puts o (to_rom b a)) s
     opened =
-        line-runs (phase_of b a) r.kind r.b1 r.b2 r.b3 r.b4 r.emit r.fine (byte_read b true z 0) refl file
+        line-runs (phase_of b a) r.kind r.b1 r.b2 r.b3 r.b4 r.emit r.fine (not-loud (byte_read b true z 0) refl) file
         (puts f (to_front b a)) (puts o (to_rom b a)) s (head b) (letters b ++ (codes " $" ++ glyph_of (z / 16) ∷ glyph_of z ∷ []))
         (ap (quietly (before (phase_of b a) r.kind r.b1 r.b2 r.b3 r.b4 emits.Nothing))
         (sym (lettered b (codes " $" ++ glyph_of (z / 16) ∷ glyph_of z ∷ [])))

@@ -17,7 +17,7 @@ use Rattle.lister.specs.Body.{bytes_text, line_text, lines_from, lines_text}
 use Rattle.lister.specs.Row.{row_text}
 use Rattle.lister.specs.List.{settings_text, rows_text, script_text}
 use Rattle.assembler.specs.Desk.{State, runs}
-use Rattle.bothways.proofs.{Quietly.quietly, Quietly.quietly-reads, Row.row-quiet, Settings.settings-back}
+use Rattle.bothways.proofs.{Quietly.quietly, Quietly.not-loud, Quietly.quietly-reads, Row.row-quiet, Settings.settings-back}
 use Rattle.bothways.proofs.Rows.{Open, rows, before}
 use Rattle.bothways.proofs.Between.{Rest, line_reads, row_line}
 use Rattle.bothways.proofs.Body.{Section, word_of, byte_read, spaced_read, dollar_read, space, dollar, digits}
@@ -30,7 +30,7 @@ use Rattle.reader.specs.declared.kinds.Emit.TheVariants as emits
 use Rattle.bothways.proofs.RowKind.{kind_at}
 
 pub settings-nameless : (n : ℕ) → n < 65536 → Unnamed start_of (settings_text n)
-settings-nameless n h = quietly_unnamed (before phases.Settings kinds.Bitcycles (n % 256) (n / 256) 0 0 emits.Settings) refl start_of (settings_text n) (settings-back n h)
+settings-nameless n h = quietly_unnamed (not-loud (before phases.Settings kinds.Bitcycles (n % 256) (n / 256) 0 0 emits.Settings) refl) start_of (settings_text n) (settings-back n h)
 
 -- the bytes behind x
 bytes-nameless : (b : Section) (i : Bool) (x y : ℕ) (l : List ℕ) → Bytes (x ∷ l) → Unnamed (byte_read b i x y) (bytes_text l ++ codes "\n")
@@ -40,11 +40,11 @@ bytes-nameless b i x y (z ∷ l) h =
     let t : List ℕ = bytes_text l ++ codes "\n" in
     let two : List ℕ = glyph_of (z / 16) ∷ glyph_of z ∷ [] in
     let d = digits b x z h.1.0 in
-    let after : reads (dollar_read b x) two ≡ byte_read b false z x = quietly-reads (byte_read b false z x) refl (dollar_read b x) two d in
+    let after : reads (dollar_read b x) two ≡ byte_read b false z x = quietly-reads (not-loud (byte_read b false z x) refl) (dollar_read b x) two d in
     let rest : Unnamed (reads (dollar_read b x) two) t =
     subst (λ (r : Reader). Unnamed r t) (sym after) (bytes-nameless b false z x l h.1) in
     let number : Unnamed (dollar_read b x) (two ++ t) =
-    unnamed_append (dollar_read b x) two t (quietly_unnamed (byte_read b false z x) refl (dollar_read b x) two d) rest in
+    unnamed_append (dollar_read b x) two t (quietly_unnamed (not-loud (byte_read b false z x) refl) (dollar_read b x) two d) rest in
     let sign : Unnamed (spaced_read b x) (36 ∷ (two ++ t)) =
     unnamed_next (spaced_read b x) 36 (two ++ t) refl (subst (λ (r : Reader). Unnamed r (two ++ t)) (sym (dollar b x)) number) in
     unnamed_next (byte_read b i x y) 32 (36 ∷ (two ++ t)) refl
@@ -65,9 +65,9 @@ module _ (file : List ℕ) (b : Section) (f o s : Sheet) where
       (sym (lettered b (codes " $" ++ glyph_of (z / 16) ∷ glyph_of z ∷ [])))
       ∙ opening r.kind r.b1 r.b2 r.b3 r.b4 z small.0 b a in
       let first : Unnamed was (head b ∷ u) =
-      line_unnamed q refl (phase_of b a) r.kind r.b1 r.b2 r.b3 r.b4 r.emit r.fine (head b ∷ u) e in
+      line_unnamed (not-loud q refl) (phase_of b a) r.kind r.b1 r.b2 r.b3 r.b4 r.emit r.fine (head b ∷ u) e in
       let after : reads was (head b ∷ u) ≡ byte_read b true z 0 =
-      line_reads (phase_of b a) r.kind r.b1 r.b2 r.b3 r.b4 r.emit r.fine q refl (head b) u e in
+      line_reads (phase_of b a) r.kind r.b1 r.b2 r.b3 r.b4 r.emit r.fine (not-loud q refl) (head b) u e in
       let rest : Unnamed (reads was (head b ∷ u)) t = subst (λ (x : Reader). Unnamed x t) (sym after) (bytes-nameless b true z 0 l small) in
       let whole : Unnamed was ((head b ∷ u) ++ t) = unnamed_append was (head b ∷ u) t first rest in
       let there : Unnamed was (word_of b ++ (codes " $" ++ glyph_of (z / 16) ∷ glyph_of z ∷ t)) =
@@ -93,7 +93,7 @@ module _ (file : List ℕ) (f o : Sheet) (l : List ℕ) (small : Bytes l) where
   row-nameless : (s : Sheet) (b : List ℕ) → Bytes b → formed_row b ≡ true → (p : Phase) → Open p → (k : State) → Rest p f o s k → Unnamed k.reader (row_text b)
   row-nameless s b bytes h p may k r =
       let there : Unnamed (before p r.kind r.b1 r.b2 r.b3 r.b4 r.emit) (row_text b) =
-      line_unnamed (before phases.Rows (kind_at (byte_at b 0)) (byte_at b 1) (byte_at b 2) (byte_at b 3) (byte_at b 4) emits.Row) refl p r.kind r.b1 r.b2 r.b3 r.b4 r.emit r.fine (row_text b)
+      line_unnamed (not-loud (before phases.Rows (kind_at (byte_at b 0)) (byte_at b 1) (byte_at b 2) (byte_at b 3) (byte_at b 4) emits.Row) refl) p r.kind r.b1 r.b2 r.b3 r.b4 r.emit r.fine (row_text b)
       (row-quiet r.kind r.b1 r.b2 r.b3 r.b4 p may b bytes h) in
       subst (λ (x : State). Unnamed x.reader (row_text b)) (sym r.is) there
 

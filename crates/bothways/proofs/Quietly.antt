@@ -16,6 +16,7 @@ use Rattle.reader.specs.declared.kinds.Kind.TheVariants as kinds
 use Rattle.reader.specs.declared.kinds.Emit.TheVariants as emits
 use Rattle.reader.specs.declared.word.Form.TheVariants as forms
 use Rattle.reader.specs.declared.draft.Draft.{Draft}
+use Rattle.reader.specs.Draft.{has_failed}
 use Rattle.reader.specs.Line.{fresh}
 use Rattle.reader.specs.Word.{in_name}
 
@@ -31,6 +32,10 @@ row_by _ = false
 abbrev pub is_loud : Draft → Bool
 is_loud d = row_by d.emit && not (fresh d.expected)
 
+-- a reader that has failed
+abbrev pub failing : Reader
+failing = reader (blank_word forms.Between) (draft phases.Nothing wants.Line kinds.Nothing 0 0 0 0 emits.Failed)
+
 abbrev pub silent_by : Emit → Bool
 silent_by emits.Nothing = true
 silent_by _ = false
@@ -43,28 +48,37 @@ is_nothing _ h = absurd (false≢true h)
 abbrev pub calm : Reader → Bool
 calm r = silent_by r.draft.emit && not (in_name r.word)
 
--- reads, where each reader before a character is calm; loud elsewhere
-unfoldable pub quietly : Reader → List ℕ → Reader
-quietly r [] = r
-quietly r (c ∷ t) = pick (calm r) (quietly (read_of r c) t) loud
+-- reads, where each reader before a character is calm; a mark elsewhere
+unfoldable pub quietly_or : Reader → Reader → List ℕ → Reader
+quietly_or m r [] = r
+quietly_or m r (c ∷ t) = pick (calm r) (quietly_or m (read_of r c) t) m
+
+-- with the mark that no text gives
+abbrev pub quietly : Reader → List ℕ → Reader
+quietly r t = quietly_or loud r t
 
 -- a character adds what it completes
 pub one : (file : List ℕ) (f o s : Sheet) (r : Reader) (c : ℕ) → stepped file (made r f o s) c ≡ added file f o s (read_of r c)
 unfolding stepped
 one file f o s r c = refl
 
-module _ (q : Reader) (fine : is_loud q.draft ≡ false) where
-  -- loud is not fine
-  pub not-loud : {A : Type 0} → loud ≡ q → A
-  not-loud e = absurd (false≢true (sym fine ∙ ap (λ (r : Reader). is_loud r.draft) (sym e)))
+-- a reader whose line is over, or that completes no row, is not loud
+pub not-loud : (q : Reader) → is_loud q.draft ≡ false → {A : Type 0} → loud ≡ q → A
+not-loud q fine e = absurd (false≢true (sym fine ∙ ap (λ (r : Reader). is_loud r.draft) (sym e)))
 
-  quiet_read : (b : Bool) (r : Reader) (t : List ℕ) → (quietly r t ≡ q → reads r t ≡ q) → pick b (quietly r t) loud ≡ q → reads r t ≡ q
+-- one that has not failed is not failing
+pub not-failing : (q : Reader) → has_failed q.draft ≡ false → {A : Type 0} → failing ≡ q → A
+not-failing q fine e = absurd (false≢true (sym fine ∙ ap (λ (r : Reader). has_failed r.draft) (sym e)))
+
+-- the reader q that a text ends in is not the mark m
+module _ {m q : Reader} (apart : m ≡ q → ⊥) where
+  quiet_read : (b : Bool) (r : Reader) (t : List ℕ) → (quietly_or m r t ≡ q → reads r t ≡ q) → pick b (quietly_or m r t) m ≡ q → reads r t ≡ q
   quiet_read true r t ih e = ih e
-  quiet_read false r t ih e = not-loud e
+  quiet_read false r t ih e = absurd (apart e)
 
   -- such a text is read
-  pub quietly-reads : (r : Reader) (t : List ℕ) → quietly r t ≡ q → reads r t ≡ q
-  unfolding quietly reads
+  pub quietly-reads : (r : Reader) (t : List ℕ) → quietly_or m r t ≡ q → reads r t ≡ q
+  unfolding quietly_or reads
   quietly-reads r [] h = h
   quietly-reads r (c ∷ t) h = quiet_read (calm r) (read_of r c) t (λ e. quietly-reads (read_of r c) t e) h
 
@@ -75,16 +89,27 @@ module _ (q : Reader) (fine : is_loud q.draft ≡ false) where
     silent r e = rw e
 
     quiet-run : (r : Reader) (c : ℕ) (t : List ℕ) (b : Bool) → calm r ≡ b
-        → (quietly (read_of r c) t ≡ q → runs file (added file f o s (read_of r c)) t ≡ added file f o s q)
-        → pick b (quietly (read_of r c) t) loud ≡ q
+        → (quietly_or m (read_of r c) t ≡ q → runs file (added file f o s (read_of r c)) t ≡ added file f o s q)
+        → pick b (quietly_or m (read_of r c) t) m ≡ q
         → runs file (stepped file (added file f o s r) c) t ≡ added file f o s q
     quiet-run r c t true z ih e =
         ap (λ (k : State). runs file (stepped file k c) t) (silent r (is_nothing r.draft.emit ((and-eq-true_iff (silent_by r.draft.emit) (not (in_name r.word))).0 z).0))
         ∙ ap (λ (k : State). runs file k t) (one file f o s r c)
         ∙ ih e
-    quiet-run r c t false z ih e = not-loud e
+    quiet-run r c t false z ih e = absurd (apart e)
 
-    pub quietly-runs : (r : Reader) (t : List ℕ) → quietly r t ≡ q → runs file (added file f o s r) t ≡ added file f o s q
-    unfolding quietly runs
+    pub quietly-runs : (r : Reader) (t : List ℕ) → quietly_or m r t ≡ q → runs file (added file f o s r) t ≡ added file f o s q
+    unfolding quietly_or runs
     quietly-runs r [] h = ap (added file f o s) h
     quietly-runs r (c ∷ t) h = quiet-run r c t (calm r) refl (λ e. quietly-runs (read_of r c) t e) h
+
+  -- and is read quietly with any other mark
+  module _ (n : Reader) where
+    marked : (b : Bool) (r : Reader) (t : List ℕ) → (quietly_or m r t ≡ q → quietly_or n r t ≡ q) → pick b (quietly_or m r t) m ≡ q → pick b (quietly_or n r t) n ≡ q
+    marked true r t ih e = ih e
+    marked false r t ih e = absurd (apart e)
+
+    pub quietly-any : (r : Reader) (t : List ℕ) → quietly_or m r t ≡ q → quietly_or n r t ≡ q
+    unfolding quietly_or
+    quietly-any r [] h = h
+    quietly-any r (c ∷ t) h = marked (calm r) (read_of r c) t (λ e. quietly-any (read_of r c) t e) h

@@ -12,7 +12,7 @@ use Rattle.reader.specs.Word.{word, blank_word, letter_of, dollar_of, colon_of, 
 use Rattle.reader.specs.Number.{number_of}
 use Rattle.reader.specs.Line.{named_of, taken_of, closing_of, line_of}
 use Rattle.reader.specs.Reader.{reader, shut_of, spaced_of, plain_of, step_of, read_of}
-use Rattle.bothways.proofs.Quietly.{calm, quietly}
+use Rattle.bothways.proofs.Quietly.{loud, calm, quietly, quietly_or}
 use Rattle.append.specs.{Number.glyph_of, Texts.codes}
 use Rattle.lister.specs.Row.{read_text, write_text, answer_text}
 use Rattle.bothways.proofs.Digits.{plain, banked, byte-first, byte_more}
@@ -58,9 +58,10 @@ in_phase fill = (refl, refl)
 in_phase rom = (refl, refl)
 in_phase rows = (refl, refl)
 
-module _ (k : Kind) (x₁ x₂ x₃ x₄ : ℕ) (t : List ℕ) (p : Phase) (o : Open p) where
-  pub row_word : {w : String} {s : Expected} {kind : Kind} → Opens w s kind → quietly (before p k x₁ x₂ x₃ x₄ emits.Nothing) (codes w ++ t) ≡ quietly (at s kind 0 0 0 0) t
-  unfolding quietly read_of step_of plain_of letter_of sign_of digit_of spaced_of shut_of taken_of named_of keyword_of meaning_of
+-- any mark m, and a line that starts anew
+module _ (m : Reader) (k : Kind) (x₁ x₂ x₃ x₄ : ℕ) (t : List ℕ) (p : Phase) (o : Open p) where
+  pub row_word : {w : String} {s : Expected} {kind : Kind} → Opens w s kind → quietly_or m (before p k x₁ x₂ x₃ x₄ emits.Nothing) (codes w ++ t) ≡ quietly_or m (at s kind 0 0 0 0) t
+  unfolding quietly_or read_of step_of plain_of letter_of sign_of digit_of spaced_of shut_of taken_of named_of keyword_of meaning_of
   row_word cycles-row = rw ((in_phase o).0, (in_phase o).1)
   row_word read-row = rw ((in_phase o).0, (in_phase o).1)
   row_word write-row = rw ((in_phase o).0, (in_phase o).1)
@@ -73,20 +74,20 @@ module _ (k : Kind) (x₁ x₂ x₃ x₄ : ℕ) (t : List ℕ) (p : Phase) (o : 
 module _ (s : Expected) (k : Kind) (b l h : ℕ) (t : List ℕ) (lb : b < 256) (ll : l < 256) (lh : h < 256) where
   address : quietly (at s k 0 0 0 0) (36 ∷ glyph_of (b / 16) ∷ glyph_of b ∷ 58 ∷ glyph_of (h / 16) ∷ glyph_of h ∷ glyph_of (l / 16) ∷ glyph_of l ∷ t)
       ≡ quietly (reader (word forms.Banked (h * 256 + l) b) (draft phases.Rows s k 0 0 0 0 emits.Nothing)) t
-  unfolding quietly read_of step_of plain_of sign_of dollar_of colon_of
+  unfolding quietly_or read_of step_of plain_of sign_of dollar_of colon_of
   address =
-      byte-first phases.Rows s k 0 0 0 0 plain (58 ∷ glyph_of (h / 16) ∷ glyph_of h ∷ glyph_of (l / 16) ∷ glyph_of l ∷ t) 0 b lb
-      ∙ byte-first phases.Rows s k 0 0 0 0 banked (glyph_of (l / 16) ∷ glyph_of l ∷ t) b h lh
-      ∙ byte_more phases.Rows s k 0 0 0 0 banked t h b l (omega arith) ll
+      byte-first loud phases.Rows s k 0 0 0 0 plain (58 ∷ glyph_of (h / 16) ∷ glyph_of h ∷ glyph_of (l / 16) ∷ glyph_of l ∷ t) 0 b lb
+      ∙ byte-first loud phases.Rows s k 0 0 0 0 banked (glyph_of (l / 16) ∷ glyph_of l ∷ t) b h lh
+      ∙ byte_more loud phases.Rows s k 0 0 0 0 banked t h b l (omega arith) ll
 
 -- `= $` behind an address
 module _ (r : Reader) (k : Kind) (b l h : ℕ) (t : List ℕ) where
   sign : quietly (at wants.Byte k b l h 0) (codes "= $" ++ t) ≡ quietly (reader (word forms.Dollar 0 0) (draft phases.Rows wants.Byte k b l h 0 emits.Nothing)) t
-  unfolding quietly read_of step_of plain_of sign_of dollar_of spaced_of shut_of
+  unfolding quietly_or read_of step_of plain_of sign_of dollar_of spaced_of shut_of
   sign = refl
 
   spaced : calm r ≡ true → read_of r 32 ≡ at wants.Byte k b l h 0 → quietly r (codes " = $" ++ t) ≡ quietly (reader (word forms.Dollar 0 0) (draft phases.Rows wants.Byte k b l h 0 emits.Nothing)) t
-  unfolding quietly
+  unfolding quietly_or
   spaced z e = rw z (ap (λ (x : Reader). quietly x (codes "= $" ++ t)) e ∙ sign)
 
 module _ (b l h : ℕ) (lb : b < 256) (ll : l < 256) (lh : h < 256) where
@@ -104,7 +105,7 @@ module _ (b l h : ℕ) (lb : b < 256) (ll : l < 256) (lh : h < 256) where
 
   -- the end of a read row
   read-end : quietly (reader (word forms.Banked (h * 256 + l) b) (draft phases.Rows wants.ReadAddress kinds.Read 0 0 0 0 emits.Nothing)) (codes "\n") ≡ before phases.Rows kinds.Read b l h 0 emits.Row
-  unfolding quietly read_of step_of sign_of shut_of taken_of number_of meaning_of line_of closing_of
+  unfolding quietly_or read_of step_of sign_of shut_of taken_of number_of meaning_of line_of closing_of
   read-end =
       rw (le-leb b 255 (omega arith), le-leb (h * 256 + l) 65535 (omega arith), le-leb 0 whole (omega arith), le-leb whole 16777215 (omega arith), low, mid, high)
 
@@ -114,7 +115,7 @@ module _ (b l h : ℕ) (lb : b < 256) (ll : l < 256) (lh : h < 256) where
   unfolding read_text
   read_back k x₁ x₂ x₃ x₄ p o =
       let rest : List ℕ = 36 ∷ glyph_of (b / 16) ∷ glyph_of b ∷ 58 ∷ glyph_of (h / 16) ∷ glyph_of h ∷ glyph_of (l / 16) ∷ glyph_of l ∷ 10 ∷ [] in
-      row_word k x₁ x₂ x₃ x₄ rest p o read-row
+      row_word loud k x₁ x₂ x₃ x₄ rest p o read-row
       ∙ address wants.ReadAddress kinds.Read b l h (codes "\n") lb ll lh
       ∙ read-end
 
@@ -130,7 +131,7 @@ module _ (b l h : ℕ) (lb : b < 256) (ll : l < 256) (lh : h < 256) where
 
   -- the byte of a write row or an answer row, and the line's end
   byte-end : (kind : Kind) (first x : ℕ) → Row kind → x < 256 → quietly (reader (word forms.Hex x 0) (draft phases.Rows wants.Byte kind first l h 0 emits.Nothing)) (codes "\n") ≡ before phases.Rows kind first l h x emits.Row
-  unfolding quietly read_of step_of sign_of shut_of taken_of number_of meaning_of line_of closing_of
+  unfolding quietly_or read_of step_of sign_of shut_of taken_of number_of meaning_of line_of closing_of
   byte-end kind first x write lx =
       let w : x % 256 ≡ x = omega arith in
       rw (le-leb 0 x (omega arith), le-leb x 255 (omega arith), w)
@@ -145,10 +146,10 @@ module _ (b l h : ℕ) (lb : b < 256) (ll : l < 256) (lh : h < 256) where
   write-back x k x₁ x₂ x₃ x₄ lx p o =
       let end : List ℕ = codes " = $" ++ glyph_of (x / 16) ∷ glyph_of x ∷ 10 ∷ [] in
       let rest : List ℕ = 36 ∷ glyph_of (b / 16) ∷ glyph_of b ∷ 58 ∷ glyph_of (h / 16) ∷ glyph_of h ∷ glyph_of (l / 16) ∷ glyph_of l ∷ end in
-      row_word k x₁ x₂ x₃ x₄ rest p o write-row
+      row_word loud k x₁ x₂ x₃ x₄ rest p o write-row
       ∙ address wants.WriteAddress kinds.Write b l h end lb ll lh
       ∙ write_middle (glyph_of (x / 16) ∷ glyph_of x ∷ 10 ∷ [])
-      ∙ byte-first phases.Rows wants.Byte kinds.Write b l h 0 plain (codes "\n") 0 x lx
+      ∙ byte-first loud phases.Rows wants.Byte kinds.Write b l h 0 plain (codes "\n") 0 x lx
       ∙ byte-end kinds.Write b x write lx
 
   answer-space : read_of (reader (word forms.Hex (h * 256 + l) 0) (draft phases.Rows wants.AnswerAddress kinds.Answer 0 0 0 0 emits.Nothing)) 32 ≡ reader (blank_word forms.Between) (draft phases.Rows wants.Byte kinds.Answer 0 l h 0 emits.Nothing)
@@ -164,7 +165,7 @@ module _ (b l h : ℕ) (lb : b < 256) (ll : l < 256) (lh : h < 256) where
   answer_middle t = spaced (reader (word forms.Hex (h * 256 + l) 0) (draft phases.Rows wants.AnswerAddress kinds.Answer 0 0 0 0 emits.Nothing)) kinds.Answer 0 l h t refl answer-space
 
   answer-dollar : (t : List ℕ) → quietly (at wants.AnswerAddress kinds.Answer 0 0 0 0) (36 ∷ t) ≡ quietly (reader (word forms.Dollar 0 0) (draft phases.Rows wants.AnswerAddress kinds.Answer 0 0 0 0 emits.Nothing)) t
-  unfolding quietly read_of step_of plain_of sign_of dollar_of
+  unfolding quietly_or read_of step_of plain_of sign_of dollar_of
   answer-dollar t = refl
 
   -- an answer row comes back
@@ -174,10 +175,10 @@ module _ (b l h : ℕ) (lb : b < 256) (ll : l < 256) (lh : h < 256) where
   answer_back x k x₁ x₂ x₃ x₄ lx p o =
       let end : List ℕ = codes " = $" ++ glyph_of (x / 16) ∷ glyph_of x ∷ 10 ∷ [] in
       let digits : List ℕ = glyph_of (h / 16) ∷ glyph_of h ∷ glyph_of (l / 16) ∷ glyph_of l ∷ end in
-      row_word k x₁ x₂ x₃ x₄ (36 ∷ digits) p o answer-row
+      row_word loud k x₁ x₂ x₃ x₄ (36 ∷ digits) p o answer-row
       ∙ answer-dollar digits
-      ∙ byte-first phases.Rows wants.AnswerAddress kinds.Answer 0 0 0 0 plain (glyph_of (l / 16) ∷ glyph_of l ∷ end) 0 h lh
-      ∙ byte_more phases.Rows wants.AnswerAddress kinds.Answer 0 0 0 0 plain end h 0 l (omega arith) ll
+      ∙ byte-first loud phases.Rows wants.AnswerAddress kinds.Answer 0 0 0 0 plain (glyph_of (l / 16) ∷ glyph_of l ∷ end) 0 h lh
+      ∙ byte_more loud phases.Rows wants.AnswerAddress kinds.Answer 0 0 0 0 plain end h 0 l (omega arith) ll
       ∙ answer_middle (glyph_of (x / 16) ∷ glyph_of x ∷ 10 ∷ [])
-      ∙ byte-first phases.Rows wants.Byte kinds.Answer 0 l h 0 plain (codes "\n") 0 x lx
+      ∙ byte-first loud phases.Rows wants.Byte kinds.Answer 0 l h 0 plain (codes "\n") 0 x lx
       ∙ byte-end kinds.Answer 0 x answer lx

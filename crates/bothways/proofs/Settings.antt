@@ -13,7 +13,7 @@ use Rattle.reader.specs.Line.{named_of, taken_of, closing_of, line_of}
 use Rattle.reader.specs.Reader.{reader, start_of, shut_of, spaced_of, plain_of, step_of, read_of}
 use Rattle.lister.specs.List.{settings_text}
 use Rattle.assembler.specs.Desk.{State, front_of, rom_of, script_of, runs, made, added}
-use Rattle.bothways.proofs.{Quietly.quietly, Quietly.quietly-runs, Decimal.decimal-back, Rows.before, Between.Rest}
+use Rattle.bothways.proofs.{Quietly.loud, Quietly.quietly, Quietly.quietly_or, Quietly.not-loud, Quietly.quietly-runs, Decimal.decimal-back, Rows.before, Between.Rest}
 use Rattle.reader.specs.declared.kinds.Phase.TheVariants as phases
 use Rattle.reader.specs.declared.kinds.Expected.TheVariants as wants
 use Rattle.reader.specs.declared.kinds.Kind.TheVariants as kinds
@@ -22,12 +22,12 @@ use Rattle.reader.specs.declared.word.Form.TheVariants as forms
 
 -- `bitcycles `
 settings-word : (t : List ℕ) → quietly start_of (codes "bitcycles " ++ t) ≡ quietly (reader (word forms.Between 0 0) (draft phases.Settings wants.BitCycles kinds.Bitcycles 0 0 0 0 emits.Nothing)) t
-unfolding quietly read_of step_of plain_of letter_of sign_of digit_of spaced_of shut_of taken_of named_of keyword_of meaning_of
+unfolding quietly_or read_of step_of plain_of letter_of sign_of digit_of spaced_of shut_of taken_of named_of keyword_of meaning_of
 settings-word t = refl
 
 module _ (n : ℕ) (small : n < 65536) where
   settings-end : quietly (reader (word forms.Decimal n 0) (draft phases.Settings wants.BitCycles kinds.Bitcycles 0 0 0 0 emits.Nothing)) (codes "\n") ≡ before phases.Settings kinds.Bitcycles (n % 256) (n / 256) 0 0 emits.Settings
-  unfolding quietly read_of step_of sign_of shut_of taken_of number_of meaning_of line_of closing_of
+  unfolding quietly_or read_of step_of sign_of shut_of taken_of number_of meaning_of line_of closing_of
   settings-end =
       let q : n / 256 % 256 ≡ n / 256 = omega arith in
       rw (le-leb 0 n (omega arith), le-leb n 65535 (omega arith), q)
@@ -35,7 +35,7 @@ module _ (n : ℕ) (small : n < 65536) where
   -- the settings come back
   pub settings-back : quietly start_of (settings_text n) ≡ before phases.Settings kinds.Bitcycles (n % 256) (n / 256) 0 0 emits.Settings
   unfolding settings_text
-  settings-back = settings-word (decimal n ++ codes "\n") ∙ decimal-back phases.Settings wants.BitCycles kinds.Bitcycles 0 0 0 0 n (codes "\n") small ∙ settings-end
+  settings-back = settings-word (decimal n ++ codes "\n") ∙ decimal-back loud phases.Settings wants.BitCycles kinds.Bitcycles 0 0 0 0 n (codes "\n") small ∙ settings-end
 
   module _ (file : List ℕ) (f o s : Sheet) where
     abbrev done : Reader
@@ -62,6 +62,6 @@ module _ (n : ℕ) (small : n < 65536) where
           fine = refl;
           is =
               ap (λ (x : State). runs file x (settings_text n)) none
-              ∙ quietly-runs done refl file f o s start_of (settings_text n) settings-back
+              ∙ quietly-runs (not-loud done refl) file f o s start_of (settings_text n) settings-back
               ∙ only;
         }

@@ -8,7 +8,7 @@ use Rattle.common.specs.Pick.{pick}
 use Rattle.reader.specs.declared.reader.Reader.{Reader}
 use Rattle.reader.specs.Reader.{read_of, reads, until_from, name_at}
 use Rattle.assembler.specs.Desk.{State, stepped, runs}
-use Rattle.bothways.proofs.Quietly.{loud, is_loud, calm, quietly, not-loud}
+use Rattle.bothways.proofs.Quietly.{calm, quietly_or}
 use Rattle.bothways.proofs.{Rows.before, Between.quieted}
 use Rattle.reader.specs.declared.kinds.{Phase.Phase, Kind.Kind, Emit.Emit}
 use Rattle.reader.specs.declared.kinds.Emit.TheVariants as emits
@@ -67,22 +67,22 @@ pub unnamed_runs : (file : List ℕ) (k : State) (a b : List ℕ) → Unnamed k.
 unnamed_runs file k a b h g = unnamed_append k.reader a b h (subst (λ (r : Reader). Unnamed r b) (runs-reads file k a) g)
 
 -- what is read quietly has no name
-module _ (q : Reader) (fine : is_loud q.draft ≡ false) where
-  quiet_step : (r : Reader) (c : ℕ) (t : List ℕ) (b : Bool) → calm r ≡ b → (quietly (read_of r c) t ≡ q → Unnamed (read_of r c) t)
-      → pick b (quietly (read_of r c) t) loud ≡ q → Unnamed r (c ∷ t)
+module _ {m q : Reader} (apart : m ≡ q → ⊥) where
+  quiet_step : (r : Reader) (c : ℕ) (t : List ℕ) (b : Bool) → calm r ≡ b → (quietly_or m (read_of r c) t ≡ q → Unnamed (read_of r c) t)
+      → pick b (quietly_or m (read_of r c) t) m ≡ q → Unnamed r (c ∷ t)
   quiet_step r c t true z ih e =
       unnamed_next r c t (not-true (in_name r.word) ((and-eq-true_iff (silent_by r.draft.emit) (not (in_name r.word))).0 z).1) (ih e)
-  quiet_step r c t false z ih e = not-loud q fine e
+  quiet_step r c t false z ih e = absurd (apart e)
 
-  pub quietly_unnamed : (r : Reader) (t : List ℕ) → quietly r t ≡ q → Unnamed r t
-  unfolding quietly
+  pub quietly_unnamed : (r : Reader) (t : List ℕ) → quietly_or m r t ≡ q → Unnamed r t
+  unfolding quietly_or
   quietly_unnamed r [] h = unnamed_none r
   quietly_unnamed r (c ∷ t) h = quiet_step r c t (calm r) refl (λ e. quietly_unnamed (read_of r c) t e) h
 
   -- a line starts anew
   module _ (p : Phase) (k : Kind) (x₁ x₂ x₃ x₄ : ℕ) (e : Emit) (ok : failed_by e ≡ false) where
-    pub line_unnamed : (t : List ℕ) → quietly (before p k x₁ x₂ x₃ x₄ emits.Nothing) t ≡ q → Unnamed (before p k x₁ x₂ x₃ x₄ e) t
-    unfolding quietly
+    pub line_unnamed : (t : List ℕ) → quietly_or m (before p k x₁ x₂ x₃ x₄ emits.Nothing) t ≡ q → Unnamed (before p k x₁ x₂ x₃ x₄ e) t
+    unfolding quietly_or
     line_unnamed [] h = unnamed_none (before p k x₁ x₂ x₃ x₄ e)
     line_unnamed (c ∷ t) h =
         unnamed_next (before p k x₁ x₂ x₃ x₄ e) c t refl

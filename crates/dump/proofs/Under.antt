@@ -1,13 +1,27 @@
 -- A place that is named is one of work RAM.
-use Rattle.std.proofs.Common.{ℕ, ◌+◌, ◌<◌, ◌&&◌, Option, Some, None, IfSome, List, ltb, eqb, length, arith}
-use Rattle.std.proofs.lemmas.Bool.{ltb-false}
+use Rattle.std.proofs.Common.{ℕ, ◌+◌, ◌*◌, ◌<◌, ◌≡◌, ◌&&◌, true, Option, Some, None, IfSome, List, ltb, eqb, length, arith}
+use Rattle.std.proofs.lemmas.Bool.{ltb-true, ltb-false}
 use Prim.Native.Char.{code}
 use Rattle.common.proofs.TableLaws.{pick_elim, pick_case}
 use Rattle.fields.specs.Bytes.{byte_at, part_of}
-use Rattle.dump.specs.Place.{pair_of, offset_of, offset_by, six_of, bare_of, offset_named}
+use Rattle.reader.specs.Letter.{digit_of}
+use Rattle.dump.specs.Place.{pair_by, pair_of, offset_of, offset_by, six_of, bare_of, offset_named}
 
 abbrev Under : ℕ → Option ℕ → Type 0
 Under n o = IfSome o (λ x. x < n)
+
+digits : (x y : ℕ) → (ltb x 16 && ltb y 16) ≡ true → x * 16 + y < 256
+digits x y e = grind (arith, ltb-true)
+
+pair_by_under : (a b : Option ℕ) → Under 256 (pair_by a b)
+pair_by_under None b = tt
+pair_by_under (Some x) None = tt
+pair_by_under (Some x) (Some y) = pick_case (Under 256) (ltb x 16 && ltb y 16) (digits x y) (λ e. tt)
+
+-- two digits name a byte
+pub pair_under : (a b : ℕ) → Under 256 (pair_of a b)
+unfolding pair_of
+pair_under a b = pair_by_under (digit_of a) (digit_of b)
 
 offset_under : (bank high low : ℕ) → Under 131072 (offset_of bank high low)
 unfolding offset_of

@@ -1,7 +1,8 @@
 -- The parts of a count, joined into its definitions.
-use Rattle.std.proofs.Common.{◌≡◌, ℕ, ◌+◌, ◌-◌, min, Bool, true, false, eqb, List, [], ◌∷◌, refl, ap, ◌∙◌, add-one, Result, Ok, Err}
+use Rattle.std.proofs.Common.{◌≡◌, ℕ, ◌+◌, ◌-◌, ◌%◌, ◌^◌, min, Bool, true, false, eqb, List, [], ◌∷◌, refl, ap, ◌∙◌, add-one, eqb-true, Result, Ok, Err}
 use Rattle.std.specs.Result.{result_err}
 use mir.Val.{bool_byte}
+use Rattle.benchfile.specs.Row.{row_at}
 use Rattle.common.specs.Refusal.{number_of, result_number}
 use Rattle.common.specs.declared.refusal.Refusal.{Refusal}
 use Rattle.walk.specs.Call.{Calling, call_of}
@@ -12,7 +13,7 @@ use Rattle.touch.specs.declared.who.Who.{Who}
 use Rattle.tally.specs.Alive.{Rows, noted}
 use Rattle.tally.specs.Figure.{writes, state_number}
 use Rattle.tally.specs.File.{FileRun, file_run, file_counting, file_count}
-use Rattle.tally.specs.Run.{Tallying, keeping, count_by, refused_by, call_tallied, step_tallied, calls_tallied, row_tallied, rows_tallied}
+use Rattle.tally.specs.Run.{Tallying, keeping, count_by, refused_by, call_tallied, limit_of, step_tallied, calls_tallied, row_tallied, rows_tallied}
 use Rattle.tally.specs.declared.run.Book.{Book}
 use Rattle.tally.specs.Share.{made_by, share_by, share_of, Counted}
 use Rattle.tally.specs.declared.share.Share.{Share}
@@ -55,6 +56,14 @@ module _ (rom : List ℕ) (row : ℕ) (says : Row) (i : ℕ) (t : Tallying) wher
 pub err_number : (r : Result Unit Refusal) → number_of (result_err r) ≡ result_number r
 err_number (Ok u) = refl
 err_number (Err x) = refl
+
+-- a row
+pub row_goes : (rom script limits : List ℕ) (row : ℕ) (t : Tallying) {says : Row} {n next : ℕ} {u : Tallying} → eqb t.number 0 ≡ true → says ≡ row_at script row
+    → n ≡ limit_of limits row says → next ≡ (row + 1) % 2 ^ 64
+    → u ≡ calls_tallied rom row says n (record { desk = t.desk; number = t.number; row = next; rows = t.rows; totals = t.totals })
+    → u ≡ row_tallied rom script limits row t
+unfolding row_tallied
+row_goes rom script limits row t e p q r v = let z = eqb-true t.number 0 e in cc
 
 -- a run of a file
 pub file-counted : (f l h e alive all kept : List ℕ) {none spare : List ℕ} {r s : FileRun} → none ≡ [] → spare ≡ 0 ∷ [] → r ≡ file_run f l h e none alive all

@@ -62,25 +62,30 @@ pub one : (file : List ℕ) (f o s : Sheet) (r : Reader) (c : ℕ) → stepped f
 unfolding stepped
 one file f o s r c = refl
 
+-- a test of the draft tells two readers apart
+told-apart : (test : Draft → Bool) (m q : Reader) → test m.draft ≡ true → test q.draft ≡ false → {A : Type 0} → m ≡ q → A
+told-apart test m q marked fine e = absurd (false≢true (sym fine ∙ ap (λ (r : Reader). test r.draft) (sym e) ∙ marked))
+
 -- a reader whose line is over, or that completes no row, is not loud
 pub not-loud : (q : Reader) → is_loud q.draft ≡ false → {A : Type 0} → loud ≡ q → A
-not-loud q fine e = absurd (false≢true (sym fine ∙ ap (λ (r : Reader). is_loud r.draft) (sym e)))
+not-loud q fine e = told-apart is_loud loud q refl fine e
 
 -- one that has not failed is not failing
 pub not-failing : (q : Reader) → has_failed q.draft ≡ false → {A : Type 0} → failing ≡ q → A
-not-failing q fine e = absurd (false≢true (sym fine ∙ ap (λ (r : Reader). has_failed r.draft) (sym e)))
+not-failing q fine e = told-apart has_failed failing q refl fine e
 
 -- the reader q that a text ends in is not the mark m
 module _ {m q : Reader} (apart : m ≡ q → ⊥) where
-  quiet_read : (b : Bool) (r : Reader) (t : List ℕ) → (quietly_or m r t ≡ q → reads r t ≡ q) → pick b (quietly_or m r t) m ≡ q → reads r t ≡ q
-  quiet_read true r t ih e = ih e
-  quiet_read false r t ih e = absurd (apart e)
+  -- where it is read on, the reader before was calm
+  quiet_read : (P : Bool → Type 0) (b : Bool) (r : Reader) (t : List ℕ) → (quietly_or m r t ≡ q → P true) → pick b (quietly_or m r t) m ≡ q → P b
+  quiet_read P true r t ih e = ih e
+  quiet_read P false r t ih e = absurd (apart e)
 
   -- such a text is read
   pub quietly-reads : (r : Reader) (t : List ℕ) → quietly_or m r t ≡ q → reads r t ≡ q
   unfolding quietly_or reads
   quietly-reads r [] h = h
-  quietly-reads r (c ∷ t) h = quiet_read (calm r) (read_of r c) t (λ e. quietly-reads (read_of r c) t e) h
+  quietly-reads r (c ∷ t) h = quiet_read (λ b. reads (read_of r c) t ≡ q) (calm r) (read_of r c) t (λ e. quietly-reads (read_of r c) t e) h
 
   -- and adds what its last character completes
   module _ (file : List ℕ) (f o s : Sheet) where
@@ -104,12 +109,8 @@ module _ {m q : Reader} (apart : m ≡ q → ⊥) where
     quietly-runs r (c ∷ t) h = quiet-run r c t (calm r) refl (λ e. quietly-runs (read_of r c) t e) h
 
   -- and is read quietly with any other mark
-  module _ (n : Reader) where
-    marked : (b : Bool) (r : Reader) (t : List ℕ) → (quietly_or m r t ≡ q → quietly_or n r t ≡ q) → pick b (quietly_or m r t) m ≡ q → pick b (quietly_or n r t) n ≡ q
-    marked true r t ih e = ih e
-    marked false r t ih e = absurd (apart e)
-
-    pub quietly-any : (r : Reader) (t : List ℕ) → quietly_or m r t ≡ q → quietly_or n r t ≡ q
-    unfolding quietly_or
-    quietly-any r [] h = h
-    quietly-any r (c ∷ t) h = marked (calm r) (read_of r c) t (λ e. quietly-any (read_of r c) t e) h
+  pub quietly-any : (n r : Reader) (t : List ℕ) → quietly_or m r t ≡ q → quietly_or n r t ≡ q
+  unfolding quietly_or
+  quietly-any n r [] h = h
+  quietly-any n r (c ∷ t) h =
+      quiet_read (λ b. pick b (quietly_or n (read_of r c) t) n ≡ q) (calm r) (read_of r c) t (λ e. quietly-any n (read_of r c) t e) h
